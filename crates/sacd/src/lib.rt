@@ -1,0 +1,116 @@
+// What C and Rust link: the functions of the layers below, under names that begin `sacd_`. Each hands an answer on.
+ghost use mathlib.Core.Path.{_≡_};
+ghost use Prim.Native.Nat.{_*_, _%_, _^_};
+ghost use lib.ListN.{length};
+ghost use Rattle.sectors.specs.Audit.{auditOf};
+ghost use Rattle.sectors.specs.Fnv.{digestOf, fingerprintOf};
+ghost use Rattle.sectors.specs.Number.{beAt};
+ghost use Rattle.sectors.specs.Run.{readRefusal, readInto, comparisonOf};
+ghost use Rattle.sectors.specs.Sector.{sectorCount, readable};
+use sectors::fnv::FingerprintAnswer;
+use sectors::header::AuditAnswer;
+use sectors::run::Comparison;
+use sectors::sector::Lsn;
+
+// The byte at a place of a table; 0 past its end.
+#[no_mangle]
+pub extern "C" fn sacd_byte_at(table: &[u8], at: usize) -> u8
+    ensures { λ r. ⌜ r ≡ beAt (now (table .entry)) at 1 ⌝ }
+{
+    sectors::number::byte_at(table, at)
+}
+
+// The number in two bytes from a place on, each 0 past the table's end.
+#[no_mangle]
+pub extern "C" fn sacd_be16_at(table: &[u8], at: usize) -> u16
+    ensures { λ r. ⌜ r ≡ beAt (now (table .entry)) at 2 ⌝ }
+{
+    sectors::number::be16_at(table, at)
+}
+
+// The number in four bytes from a place on, each 0 past the table's end.
+#[no_mangle]
+pub extern "C" fn sacd_be32_at(table: &[u8], at: usize) -> u32
+    ensures { λ r. ⌜ r ≡ beAt (now (table .entry)) at 4 ⌝ }
+{
+    sectors::number::be32_at(table, at)
+}
+
+// Whole sectors in so many bytes.
+#[no_mangle]
+pub extern "C" fn sacd_sector_count(format: u32, bytes: usize) -> usize
+    ensures { λ r. ⌜ r ≡ sectorCount format bytes ⌝ }
+{
+    sectors::sector::sector_count(format, bytes)
+}
+
+// Whether so many sectors from an address on are readable in so many bytes.
+#[no_mangle]
+pub extern "C" fn sacd_contains(format: u32, bytes: usize, lsn: Lsn, count: usize) -> bool
+    ensures { λ r. ⌜ r ≡ readable format bytes (lsn .0) count ⌝ }
+{
+    sectors::sector::contains(format, bytes, lsn, count)
+}
+
+// Copies the data bytes of a run of sectors into a buffer, from a place on. A refusal changes nothing.
+#[no_mangle]
+pub extern "C" fn sacd_read_sectors(
+    format: u32,
+    image: &[u8],
+    lsn: Lsn,
+    count: usize,
+    buf: &mut [u8],
+    at: usize,
+) -> u8
+    ensures refusal { λ r. ⌜ r ≡ readRefusal format (length (now (image .entry))) (lsn .0) count at (length (now (buf .entry))) ⌝ }
+    ensures filled { λ r. ⌜ now (buf .exit) ≡ readInto format (now (image .entry)) (lsn .0) count at (now (buf .entry)) ⌝ }
+{
+    sectors::run::read_sectors(format, image, lsn, count, buf, at)
+}
+
+// Compares the data bytes of a run of sectors with as many lent bytes.
+#[no_mangle]
+pub extern "C" fn sacd_compare_sectors(
+    format: u32,
+    image: &[u8],
+    lsn: Lsn,
+    count: usize,
+    bytes: &[u8],
+) -> Comparison
+    ensures { λ r. ⌜ r ≡ comparisonOf format (now (image .entry)) (lsn .0) count (now (bytes .entry)) ⌝ }
+{
+    sectors::run::compare_sectors(format, image, lsn, count, bytes)
+}
+
+// The low 64 bits of a product.
+#[no_mangle]
+pub extern "C" fn sacd_wrapping_mul(a: u64, b: u64) -> u64
+    ensures { λ r. ⌜ r ≡ a * b % 2 ^ 64 ⌝ }
+{
+    sectors::fnv::wrapping_mul(a, b)
+}
+
+// The digest of bytes: FNV-1a, 64 bits.
+#[no_mangle]
+pub extern "C" fn sacd_digest(bytes: &[u8]) -> u64
+    ensures { λ r. ⌜ r ≡ digestOf (now (bytes .entry)) ⌝ }
+{
+    sectors::fnv::digest(bytes)
+}
+
+// The digest of a sector's data bytes.
+#[no_mangle]
+pub extern "C" fn sacd_fingerprint(format: u32, image: &[u8], lsn: Lsn) -> FingerprintAnswer
+    ensures { λ r. ⌜ r ≡ fingerprintOf format (now (image .entry)) (lsn .0) ⌝ }
+{
+    sectors::fnv::fingerprint(format, image, lsn)
+}
+
+// Audits the header of a sector, in the numbers of the answer.
+#[no_mangle]
+pub extern "C" fn sacd_audit(format: u32, image: &[u8], lsn: Lsn) -> AuditAnswer
+    ensures { λ r. ⌜ r ≡ auditOf format (now (image .entry)) (lsn .0) ⌝ }
+{
+    let answer = sectors::header::audit(format, image, lsn);
+    sectors::header::audit_answer(answer)
+}

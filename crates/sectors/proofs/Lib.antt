@@ -1,0 +1,12 @@
+pub mod Alpha
+pub mod AuditCases
+pub mod Beginning
+pub mod Bounds
+pub mod Copying
+pub mod Division
+pub mod Fold
+pub mod Halves
+pub mod Places
+pub mod Table
+pub mod Turns
+pub mod Xor

@@ -1,0 +1,55 @@
+-- `sectors::header::audit_answer` meets its contract, case by case. Assumes nothing.
+use borrow.Author.Needs.{needs}
+use Rattle.sectors.specs.Audit.{answerOf}
+use Rattle.sectors.proofs.header.audit_answer.Statement.{statement}
+use Rattle.sectors.proofs.header.audit_answer.Tie as tie
+
+enum-told : tie.Need-enum-told
+enum-told c = search needs
+
+enum-told-2 : tie.Need-enum-told-2
+enum-told-2 c = search needs
+
+enum-told-3 : tie.Need-enum-told-3
+enum-told-3 c = search needs
+
+enum-told-4 : tie.Need-enum-told-4
+enum-told-4 c = search needs
+
+enum-told-5 : tie.Need-enum-told-5
+enum-told-5 c = search needs
+
+returns : tie.Need-returns
+unfolding answerOf
+returns c = cc
+
+returns-2 : tie.Need-returns-2
+unfolding answerOf
+returns-2 c = cc
+
+returns-3 : tie.Need-returns-3
+unfolding answerOf
+returns-3 c = cc
+
+returns-4 : tie.Need-returns-4
+unfolding answerOf
+returns-4 c = cc
+
+returns-5 : tie.Need-returns-5
+unfolding answerOf
+returns-5 c = cc
+
+pub audit-answer-spec : {M : Type 1} → statement M
+audit-answer-spec =
+    tie.close
+    (tie.spec
+    enum-told
+    enum-told-2
+    enum-told-3
+    enum-told-4
+    enum-told-5
+    returns
+    returns-2
+    returns-3
+    returns-4
+    returns-5)

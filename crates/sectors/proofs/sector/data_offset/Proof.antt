@@ -1,0 +1,27 @@
+-- `sectors::sector::data_offset` meets its contract: each arm is an entry of the table, which has nothing for a foreign format. Assumes nothing.
+use mathlib.Core.Path.{_≡_, refl, sym}
+use native.Mathlib.Omega.{arith}
+use borrow.Author.Tests.{le-leb}
+use Rattle.sectors.specs.Format.{foreign, dataOffsets, dataOffset}
+use Rattle.sectors.specs.SectorLaws.{foreign-past}
+use Rattle.sectors.proofs.sector.data_offset.Statement.{statement}
+use Rattle.sectors.proofs.sector.data_offset.Tie as tie
+
+returns : tie.Need-returns
+unfolding dataOffset
+returns c = let e : c .before .args .format ≡ 0 = omega arith in rw e
+
+returns-2 : tie.Need-returns-2
+unfolding dataOffset
+returns-2 c = let e : c .before .args .format ≡ 1 = omega arith in rw e
+
+returns-3 : tie.Need-returns-3
+unfolding dataOffset
+returns-3 c = let e : c .before .args .format ≡ 2 = omega arith in rw e
+
+returns-4 : tie.Need-returns-4
+unfolding dataOffset foreign
+returns-4 c = let f = c .before .args .format in sym (foreign-past dataOffsets refl f (le-leb 3 f (omega arith)))
+
+pub data-offset-spec : {M : Type 1} → statement M
+data-offset-spec = tie.close (tie.spec returns returns-2 returns-3 returns-4)

@@ -1,0 +1,13 @@
+-- Lent memory: a list that fills a part of another. Assumes nothing.
+use Prim.Native.Nat.{ℕ, _+_}
+use mathlib.Core.List.{List, _++_}
+use lib.ListN.{length, take, drop}
+
+module _ {A : Type 0} where
+  -- the `n` elements from a place on
+  unfoldable pub part : ℕ → ℕ → List A → List A
+  part at n l = take n (drop at l)
+
+  -- "fill .. Everything else is unchanged": `old`, with `new` in the place of as many elements from `at` on
+  unfoldable pub fill : ℕ → List A → List A → List A
+  fill at new old = take at old ++ (new ++ drop (at + length new) old)

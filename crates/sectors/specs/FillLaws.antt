@@ -1,0 +1,86 @@
+-- Laws of lent memory: what stands in a part of it after a fill. Assumes nothing.
+use Prim.Native.Nat.{ℕ, _+_, _-_, _≤_}
+use native.Mathlib.Omega.{arith}
+use native.Mathlib.Nat.{add-zero}
+use mathlib.Core.Path.{_≡_, sym, _∙_, ap}
+use mathlib.Core.List.{List, [], _++_, append-assoc}
+use lib.ListN.{length, take, drop, length-append, length-drop, take-append-drop}
+use lib.Seq.{length-take-le, take-append-le, drop-append-le, drop-append-add, take-append-seam, drop-drop, take-at, drop-at}
+use Rattle.sectors.specs.Fill.{part, fill}
+
+module _ {A : Type 0} where
+  -- a part of the first of two lists
+  pub part-front : (x y : List A) (at n : ℕ) → at + n ≤ length x → part at n (x ++ y) ≡ part at n x
+  unfolding part
+  part-front x y at n h =
+      rw (drop-append-le at x y (omega arith)) (take-append-le n (drop at x) y (rw length-drop (omega arith)))
+
+  -- nothing fills nothing
+  pub fill-none : (at : ℕ) (old : List A) → fill at [] old ≡ old
+  unfolding fill
+  fill-none at old = simp (add-zero, take-append-drop)
+
+  module _ (at : ℕ) (new old : List A) (fits : at + length new ≤ length old) where
+    front-length : length (take at old) ≡ at
+    front-length = length-take-le at old (omega arith)
+
+    pub length-fill : length (fill at new old) ≡ length old
+    unfolding fill
+    length-fill =
+        let f = front-length in
+        simp (length-append, length-drop) (omega arith)
+
+    -- what fills it stands there
+    pub part-filled : part at (length new) (fill at new old) ≡ new
+    unfolding fill part
+    part-filled =
+        ap (λ (r : List A). take (length new) r) (drop-at (take at old) (new ++ drop (at + length new) old) at front-length)
+        ∙ take-append-seam new (drop (at + length new) old)
+
+    -- what stands before is unchanged
+    pub part-before : (from n : ℕ) → from + n ≤ at → part from n (fill at new old) ≡ part from n old
+    unfolding fill
+    part-before from n h =
+        let f = front-length in
+        part-front (take at old) (new ++ drop (at + length new) old) from n (omega arith)
+        ∙ sym (part-front (take at old) (drop at old) from n (omega arith))
+        ∙ ap (part from n) (take-append-drop at old)
+
+    -- what stands behind is unchanged
+    pub part-after : (from n : ℕ) → at + length new ≤ from → part from n (fill at new old) ≡ part from n old
+    unfolding fill part
+    part-after from n h = ap (λ (r : List A). take n r) whole
+      where
+        k : ℕ
+        k = from - (at + length new)
+
+        long : length (take at old ++ new) ≡ at + length new
+        long = rw (length-append, front-length)
+
+        there : from ≡ at + length new + k
+        there = omega arith
+
+        whole : drop from (take at old ++ (new ++ drop (at + length new) old)) ≡ drop from old
+        whole =
+            ap (drop from) (sym (append-assoc (take at old) new (drop (at + length new) old)))
+            ∙ ap (λ (m : ℕ). drop m (take at old ++ new ++ drop (at + length new) old)) (there ∙ ap (λ (m : ℕ). m + k) (sym long))
+            ∙ drop-append-add (take at old ++ new) (drop (at + length new) old) k
+            ∙ drop-drop k (at + length new) old
+            ∙ ap (λ (m : ℕ). drop m old) (sym there)
+
+    -- a fill right behind another is one fill of both
+    pub fill-more : (next : List A) → at + length new + length next ≤ length old
+        → fill (at + length new) next (fill at new old) ≡ fill at (new ++ next) old
+    unfolding fill
+    fill-more next room =
+        let head : length (take at old ++ new) ≡ at + length new = rw (length-append, front-length) in
+        let end : at + length new + length next ≡ at + length (new ++ next) = rw length-append (omega arith) in
+        let back : drop (length next) (drop (at + length new) old) ≡ drop (at + length (new ++ next)) old =
+        drop-drop (length next) (at + length new) old ∙ ap (λ (m : ℕ). drop m old) end in
+        rw (
+          ← append-assoc (take at old) new (drop (at + length new) old),
+          take-at (take at old ++ new) (drop (at + length new) old) (at + length new) head,
+          ← drop-drop (length next) (at + length new) (take at old ++ new ++ drop (at + length new) old),
+          drop-at (take at old ++ new) (drop (at + length new) old) (at + length new) head,
+          back,
+        ) (simp append-assoc)

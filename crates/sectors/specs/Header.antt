@@ -1,0 +1,44 @@
+-- A sector's header (01, "Header"; ECMA-267): "4 bytes ID, 2 bytes IED", the coefficients of a polynomial over the field, "first
+-- byte highest". Assumes nothing.
+use mathlib.Core.Path.{_≡_}
+use Prim.Native.Nat.{ℕ, _<_}
+use mathlib.Core.Bool.{Bool, _&&_}
+use mathlib.Core.List.{List, [], _∷_, foldl}
+use lib.Dec.{eqb}
+use Rattle.sectors.specs.Field.{_⊕_, timesAlpha}
+
+-- A polynomial times x + r, where `times` is the product with r and `last` the coefficient before.
+unfoldable pub timesRoot : (ℕ → ℕ) → ℕ → List ℕ → List ℕ
+timesRoot times last [] = times last ∷ []
+timesRoot times last (a ∷ rest) = a ⊕ times last ∷ timesRoot times a rest
+
+-- A polynomial times "(x + 1)(x + α)".
+unfoldable pub product : List ℕ → List ℕ
+product q = timesRoot timesAlpha 0 (timesRoot (λ a. a) 0 q)
+
+-- "the six, first byte highest, are a multiple of (x + 1)(x + α)": there is a quotient of four bytes whose product they are.
+pub record Multiple (h : List ℕ) : Type 0 where
+  pub a : ℕ
+  pub b : ℕ
+  pub c : ℕ
+  pub d : ℕ
+  pub a-byte : a < 256
+  pub b-byte : b < 256
+  pub c-byte : c < 256
+  pub d-byte : d < 256
+  pub multiple : product (a ∷ b ∷ c ∷ d ∷ []) ≡ h
+
+-- "It is sound when the six .. are a multiple of (x + 1)(x + α)".
+abbrev pub Sound : List ℕ → Type 0
+Sound h = Multiple h
+
+-- The polynomial's value at 1 and at α, its syndromes, by Horner's rule.
+unfoldable pub atOne : List ℕ → ℕ
+atOne h = foldl _⊕_ 0 h
+
+unfoldable pub atAlpha : List ℕ → ℕ
+atAlpha h = foldl (λ v a. timesAlpha v ⊕ a) 0 h
+
+-- The test that decides `Sound` of six bytes: zero at both roots.
+unfoldable pub isSound : List ℕ → Bool
+isSound h = eqb (atOne h) 0 && eqb (atAlpha h) 0

@@ -1,0 +1,26 @@
+-- Sectors of an image (01, "Sectors"). Assumes nothing.
+use Prim.Native.Nat.{ℕ, zero, suc, _+_, _*_, _/_}
+use mathlib.Core.Bool.{Bool, cond}
+use mathlib.Core.List.{List, [], _++_}
+use lib.Dec.{leb}
+use lib.ListN.{length, take, drop}
+use Rattle.sectors.specs.Format.{storedSize, dataOffset, sectorSize}
+
+-- "Whole sectors are length divided by stored size, rounded down." (The library divides by 0 to 0: a foreign format has no
+-- whole sector.)
+unfoldable pub sectorCount : ℕ → ℕ → ℕ
+sectorCount format bytes = bytes / storedSize format
+
+-- "Sectors n onward, count c, are readable when n + c is at most that."
+unfoldable pub readable : ℕ → ℕ → ℕ → ℕ → Bool
+readable format bytes lsn count = leb (lsn + count) (sectorCount format bytes)
+
+-- The data bytes of the sector at an address; none if it is not in the image.
+unfoldable pub sectorData : ℕ → List ℕ → ℕ → List ℕ
+sectorData format image lsn =
+    cond (readable format (length image) lsn 1) (take sectorSize (drop (lsn * storedSize format + dataOffset format) image)) []
+
+-- "A copy's bytes are its sectors' data bytes": those of `count` sectors from an address on, one after another.
+unfoldable pub runData : ℕ → List ℕ → ℕ → ℕ → List ℕ
+runData format image lsn zero = []
+runData format image lsn (suc count) = runData format image lsn count ++ sectorData format image (lsn + count)

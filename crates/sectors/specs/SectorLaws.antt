@@ -1,0 +1,196 @@
+-- Laws of formats and of an image's sectors: their sizes, which of them are readable, and their data bytes. Assumes nothing.
+use Prim.Native.Nat.{ℕ, zero, suc, _+_, _*_, _-_, _/_, _≤_, _<_}
+use native.Mathlib.Nat.{add-zero, add-suc, add-assoc, div-zero, div-le-self, div-mul-le-self, le-div-iff-mul-le, mul-le-mul-right}
+use native.Mathlib.Omega.{arith}
+use mathlib.Core.Path.{_≡_, refl, sym, _∙_, ap}
+use mathlib.Core.Bool.{Bool, true, false}
+use mathlib.Core.List.{List, [], _++_, append-nil, append-assoc}
+use lib.ListN.{length, take, drop, getD, length-append, length-drop, List·getD-eq-default}
+use lib.Seq.{ext-getD, getD-take, getD-drop, length-take-le, take-at, drop-at}
+use borrow.Author.Tests.{leb-true, leb-false, le-leb, lt-leb}
+use Rattle.sectors.specs.Fill.{part}
+use Rattle.sectors.specs.Format.{foreign, storedSizes, storedSize, dataOffset, sectorSize}
+use Rattle.sectors.specs.Sector.{sectorCount, readable, sectorData, runData}
+
+-- ---- formats
+
+-- past the three formats a table has nothing
+pub foreign-past : (table : List ℕ) → length table ≡ 3 → (format : ℕ) → foreign format ≡ true → getD table format 0 ≡ 0
+unfolding foreign
+foreign-past table three format h = List·getD-eq-default table 0 (omega (arith, leb-true 3 format h))
+
+-- a foreign format has no stored size
+pub foreign-size : (format : ℕ) → foreign format ≡ true → storedSize format ≡ 0
+unfolding storedSize
+foreign-size format h = foreign-past storedSizes refl format h
+
+-- in any other the data lie in the stored sector
+pub known-size : (format : ℕ) → foreign format ≡ false → dataOffset format + sectorSize ≤ storedSize format
+unfolding storedSize dataOffset foreign
+known-size zero h = omega arith
+known-size (suc zero) h = omega arith
+known-size (suc (suc zero)) h = omega arith
+known-size (suc (suc (suc n))) h = omega (arith, leb-false 3 (suc (suc (suc n))) h)
+
+-- no stored sector is longer than 2,064 bytes, and data begin in it
+pub size-bound : (format : ℕ) → (dataOffset format ≤ storedSize format) × (storedSize format ≤ 2064)
+unfolding storedSize dataOffset
+size-bound zero = (omega arith, omega arith)
+size-bound (suc zero) = (omega arith, omega arith)
+size-bound (suc (suc zero)) = (omega arith, omega arith)
+size-bound (suc (suc (suc n))) = (omega arith, omega arith)
+
+-- ---- which sectors are readable
+
+-- `readable` says that the run ends by the last whole sector, and nothing else
+pub readable-true : (format bytes lsn count : ℕ) → readable format bytes lsn count ≡ true → lsn + count ≤ sectorCount format bytes
+unfolding readable
+readable-true format bytes lsn count h = leb-true (lsn + count) (sectorCount format bytes) h
+
+pub readable-false : (format bytes lsn count : ℕ) → readable format bytes lsn count ≡ false → sectorCount format bytes < lsn + count
+unfolding readable
+readable-false format bytes lsn count h = leb-false (lsn + count) (sectorCount format bytes) h
+
+pub is-readable : (format bytes lsn count : ℕ) → lsn + count ≤ sectorCount format bytes → readable format bytes lsn count ≡ true
+unfolding readable
+is-readable format bytes lsn count h = le-leb (lsn + count) (sectorCount format bytes) h
+
+pub not-readable : (format bytes lsn count : ℕ) → sectorCount format bytes < lsn + count → readable format bytes lsn count ≡ false
+unfolding readable
+not-readable format bytes lsn count h = lt-leb (lsn + count) (sectorCount format bytes) h
+
+-- a foreign format has no whole sector
+pub foreign-count : (format bytes : ℕ) → foreign format ≡ true → sectorCount format bytes ≡ 0
+unfolding sectorCount
+foreign-count format bytes h = rw (foreign-size format h) (div-zero bytes)
+
+-- a format that has a whole sector is not foreign
+pub count-known : (format bytes : ℕ) → 0 < sectorCount format bytes → foreign format ≡ false
+count-known format bytes h = go (foreign format) refl
+  where
+    go : (b : Bool) → foreign format ≡ b → b ≡ false
+    go false e = refl
+    go true e = absurd (omega (arith, foreign-count format bytes e))
+
+-- whole sectors lie in the image
+pub count-fits : (format bytes n : ℕ) → n ≤ sectorCount format bytes → n * storedSize format ≤ bytes
+unfolding sectorCount
+count-fits format bytes n h = omega (arith, mul-le-mul-right (storedSize format) h, div-mul-le-self bytes (storedSize format))
+
+-- there are no more sectors than bytes
+pub count-bound : (format bytes : ℕ) → sectorCount format bytes ≤ bytes
+unfolding sectorCount
+count-bound format bytes = div-le-self bytes (storedSize format)
+
+-- a longer image has no fewer sectors
+pub count-mono : (format m n : ℕ) → m ≤ n → sectorCount format m ≤ sectorCount format n
+unfolding sectorCount
+count-mono format m n h = go (foreign format) refl
+  where
+    go : (b : Bool) → foreign format ≡ b → m / storedSize format ≤ n / storedSize format
+    go false e =
+        let k = known-size format e in
+        let positive : 0 < storedSize format = omega arith in
+        let low = div-mul-le-self m (storedSize format) in
+        le-div-iff-mul-le positive .1 (omega arith)
+    go true e = simp (foreign-size format e, div-zero) (omega arith)
+
+-- ---- data bytes
+
+module _ (format : ℕ) (image : List ℕ) where
+  -- a sector that is in the image: its stored bytes are
+  pub sector-inside : (lsn : ℕ) → readable format (length image) lsn 1 ≡ true → lsn * storedSize format + dataOffset format + sectorSize ≤ length image
+  sector-inside lsn h =
+      let r = readable-true format (length image) lsn 1 h in
+      let k = known-size format (count-known format (length image) (omega arith)) in
+      let f = count-fits format (length image) (lsn + 1) r in
+      omega arith
+
+  pub sector-is : (lsn : ℕ) → readable format (length image) lsn 1 ≡ true
+      → sectorData format image lsn ≡ take sectorSize (drop (lsn * storedSize format + dataOffset format) image)
+  unfolding sectorData
+  sector-is lsn h = rw h
+
+  -- one that is not has no data bytes
+  pub sector-missing : (lsn : ℕ) → readable format (length image) lsn 1 ≡ false → sectorData format image lsn ≡ []
+  unfolding sectorData
+  sector-missing lsn h = rw h
+
+  pub sector-length : (lsn : ℕ) → readable format (length image) lsn 1 ≡ true → length (sectorData format image lsn) ≡ sectorSize
+  sector-length lsn h =
+      let i = sector-inside lsn h in
+      rw (sector-is lsn h) (length-take-le sectorSize (drop (lsn * storedSize format + dataOffset format) image) (rw length-drop (omega arith)))
+
+  -- data byte i of a sector, as a byte of the image
+  pub sector-byte : (lsn i : ℕ) → readable format (length image) lsn 1 ≡ true → i < sectorSize
+      → getD (sectorData format image lsn) i 0 ≡ getD image (lsn * storedSize format + dataOffset format + i) 0
+  sector-byte lsn i h q =
+      rw (sector-is lsn h)
+      (getD-take sectorSize (drop (lsn * storedSize format + dataOffset format) image) i 0 q
+      ∙ getD-drop (lsn * storedSize format + dataOffset format) image i 0)
+
+  -- each sector of a readable run is in the image
+  pub sector-of-run : (lsn count k : ℕ) → readable format (length image) lsn count ≡ true → k < count
+      → readable format (length image) (lsn + k) 1 ≡ true
+  sector-of-run lsn count k h l =
+      let r = readable-true format (length image) lsn count h in is-readable format (length image) (lsn + k) 1 (omega arith)
+
+  -- the start of a readable run is readable
+  pub run-shorter : (lsn count k : ℕ) → readable format (length image) lsn count ≡ true → k ≤ count
+      → readable format (length image) lsn k ≡ true
+  run-shorter lsn count k h l =
+      let r = readable-true format (length image) lsn count h in is-readable format (length image) lsn k (omega arith)
+
+  pub run-length : (lsn count : ℕ) → readable format (length image) lsn count ≡ true
+      → length (runData format image lsn count) ≡ count * sectorSize
+  unfolding runData
+  run-length lsn zero h = refl
+  run-length lsn (suc count) h =
+      let e = run-length lsn count (run-shorter lsn (suc count) count h (omega arith)) in
+      let d = sector-length (lsn + count) (sector-of-run lsn (suc count) count h (omega arith)) in
+      rw length-append (omega arith)
+
+  -- a run of m and n sectors is a run of m and the run of the n after them
+  pub run-append : (lsn m n : ℕ) → runData format image lsn (m + n) ≡ runData format image lsn m ++ runData format image (lsn + m) n
+  unfolding runData
+  run-append lsn m zero = simp (add-zero, append-nil)
+  run-append lsn m (suc n) = simp (add-suc, run-append lsn m n, append-assoc, add-assoc)
+
+  -- sector k of a readable run
+  pub run-part : (lsn count k : ℕ) → readable format (length image) lsn count ≡ true → k < count
+      → part (k * sectorSize) sectorSize (runData format image lsn count) ≡ sectorData format image (lsn + k)
+  unfolding part runData
+  run-part lsn count k h l =
+      let rest = runData format image (lsn + suc k) (count - suc k) in
+      let here = sectorData format image (lsn + k) in
+      let total : suc k + (count - suc k) ≡ count = omega arith in
+      let whole : runData format image lsn count ≡ runData format image lsn k ++ (here ++ rest) =
+      ap (runData format image lsn) (sym total) ∙ run-append lsn (suc k) (count - suc k) ∙ append-assoc (runData format image lsn k) here rest in
+      let front = run-length lsn k (run-shorter lsn count k h (omega arith)) in
+      let size = sector-length (lsn + k) (sector-of-run lsn count k h l) in
+      rw (whole, drop-at (runData format image lsn k) (here ++ rest) (k * sectorSize) front) (take-at here rest sectorSize size)
+
+  -- byte i of sector k of a readable run, as a byte of the image
+  pub run-byte : (lsn count k i : ℕ) → readable format (length image) lsn count ≡ true → k < count → i < sectorSize
+      → getD (runData format image lsn count) (k * sectorSize + i) 0
+      ≡ getD image ((lsn + k) * storedSize format + dataOffset format + i) 0
+  unfolding part
+  run-byte lsn count k i h l q =
+      let run = runData format image lsn count in
+      sym (getD-drop (k * sectorSize) run i 0)
+      ∙ sym (getD-take sectorSize (drop (k * sectorSize) run) i 0 q)
+      ∙ ap (λ (s : List ℕ). getD s i 0) (run-part lsn count k h l)
+      ∙ sector-byte (lsn + k) i (sector-of-run lsn count k h l) q
+
+-- two images that agree on a sector's data bytes have the same sector
+pub sector-ext : (format : ℕ) (a b : List ℕ) (lsn : ℕ)
+    → readable format (length a) lsn 1 ≡ true → readable format (length b) lsn 1 ≡ true
+    → ((i : ℕ) → i < sectorSize
+    → getD a (lsn * storedSize format + dataOffset format + i) 0 ≡ getD b (lsn * storedSize format + dataOffset format + i) 0)
+    → sectorData format a lsn ≡ sectorData format b lsn
+sector-ext format a b lsn ha hb each =
+    let la = sector-length format a lsn ha in
+    ext-getD 0 (sectorData format a lsn) (sectorData format b lsn) (la ∙ sym (sector-length format b lsn hb))
+    (λ i q.
+    let small : i < sectorSize = omega arith in
+    sector-byte format a lsn i ha small ∙ each i small ∙ sym (sector-byte format b lsn i hb small))

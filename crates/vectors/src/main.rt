@@ -1,0 +1,106 @@
+// Published vectors of FNV-1a, and cards of the header audit, the fingerprint and the numbers, written one to a line.
+use libc::STDOUT_FILENO;
+use sectors::header::AuditResult;
+use sectors::sector::Lsn;
+
+// A line of a digest, as 16 hexadecimal digits, and the text that it is of.
+fn digest_line(text: &[u8]) {
+    io::print_hex(STDOUT_FILENO, sectors::fnv::digest(text), 16);
+    io::write_all(STDOUT_FILENO, b" ");
+    io::write_all(STDOUT_FILENO, text);
+    io::write_all(STDOUT_FILENO, b"\n");
+}
+
+// A line of what the audit of a sector answers.
+fn audit_line(format: u32, image: &[u8], lsn: u32) {
+    let answer = sectors::header::audit(format, image, Lsn(lsn));
+    match answer {
+        AuditResult::Sound => io::write_all(STDOUT_FILENO, b"sound\n"),
+        AuditResult::Unsound => io::write_all(STDOUT_FILENO, b"unsound\n"),
+        AuditResult::ForeignFormat => io::write_all(STDOUT_FILENO, b"refused 1\n"),
+        AuditResult::NoHeader => io::write_all(STDOUT_FILENO, b"refused 11\n"),
+        AuditResult::NoSuchEntry => io::write_all(STDOUT_FILENO, b"refused 8\n"),
+    }
+    ;
+}
+
+// A line of a sector's fingerprint: the refusal, and the digest.
+fn fingerprint_line(format: u32, image: &[u8], lsn: u32) {
+    let answer = sectors::fnv::fingerprint(format, image, Lsn(lsn));
+    io::print_decimal(STDOUT_FILENO, answer.refusal as u64);
+    io::write_all(STDOUT_FILENO, b" ");
+    io::print_hex(STDOUT_FILENO, answer.digest, 16);
+    io::write_all(STDOUT_FILENO, b"\n");
+}
+
+// The header of a format 2 image of one sector, and what the audit answers.
+fn header_line(a: u8, b: u8, c: u8, d: u8, e: u8, f: u8) {
+    let mut image = [0u8; 2064];
+    image[0] = a;
+    image[1] = b;
+    image[2] = c;
+    image[3] = d;
+    image[4] = e;
+    image[5] = f;
+    audit_line(2, &image, 0);
+}
+
+fn digests() {
+    digest_line(b"");
+    digest_line(b"a");
+    digest_line(b"b");
+    digest_line(b"c");
+    digest_line(b"d");
+    digest_line(b"e");
+    digest_line(b"f");
+    digest_line(b"fo");
+    digest_line(b"foo");
+    digest_line(b"foob");
+    digest_line(b"fooba");
+    digest_line(b"foobar");
+    digest_line(b"ch");
+    digest_line(b"cho");
+    digest_line(b"chon");
+    digest_line(b"chong");
+    digest_line(b"chongo");
+    digest_line(b"chongo ");
+    digest_line(b"chongo w");
+    digest_line(b"chongo wa");
+    digest_line(b"chongo was");
+    digest_line(b"chongo was ");
+    digest_line(b"chongo was h");
+    digest_line(b"chongo was he");
+    digest_line(b"chongo was her");
+    digest_line(b"chongo was here");
+    digest_line(b"chongo was here!");
+    digest_line(b"hi");
+    digest_line(b"hello");
+    digest_line(b"127.0.0.1");
+}
+
+fn headers() {
+    header_line(0x00, 0x00, 0x00, 0x01, 0x03, 0x02);
+    header_line(0x00, 0x00, 0x00, 0x01, 0x02, 0x03);
+    header_line(0x00, 0x00, 0x00, 0x00, 0x00, 0x00);
+    header_line(0x00, 0x00, 0x00, 0x00, 0x00, 0x01);
+}
+
+// A sector of 2,064 zero bytes: format 0 and 1 read one in it too.
+fn refusals() {
+    let image = [0u8; 2064];
+    audit_line(3, &image, 0);
+    audit_line(0, &image, 0);
+    audit_line(1, &image, 1);
+    audit_line(2, &image, 1);
+    fingerprint_line(0, &image, 0);
+    fingerprint_line(1, &image, 0);
+    fingerprint_line(2, &image, 0);
+    fingerprint_line(2, &image[..2063], 0);
+    fingerprint_line(3, &image, 0);
+}
+
+fn main() {
+    digests();
+    headers();
+    refusals();
+}

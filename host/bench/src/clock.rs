@@ -1,0 +1,47 @@
+//! The best time of two functions that take turns.
+
+use std::time::Instant;
+
+const ROUNDS: usize = 3000;
+/// A round calls its function often enough to take so many nanoseconds.
+const ROUND_NS: f64 = 20_000.0;
+
+pub fn heading() {
+    println!(
+        "{:<34}{:>8}{:>13}{:>11}{:>8}{:>8}",
+        "what, beside what", "bytes", "library, ns", "other, ns", "ratio", "target"
+    );
+}
+
+/// One line of the table.
+pub struct Row {
+    pub what: String,
+    pub bytes: usize,
+    /// The largest ratio that is wanted.
+    pub target: f64,
+}
+
+impl Row {
+    /// Times both, which work on the same buffer, and prints the line.
+    pub fn print(&self, buf: &mut [u8], library: impl Fn(&mut [u8]), other: impl Fn(&mut [u8])) {
+        let once = time(1, buf, &other).max(1.0);
+        let calls = (ROUND_NS / once).ceil() as usize;
+        let (mut ours, mut theirs) = (f64::MAX, f64::MAX);
+        for _ in 0..ROUNDS {
+            ours = ours.min(time(calls, buf, &library));
+            theirs = theirs.min(time(calls, buf, &other));
+        }
+        let Row { what, bytes, target } = self;
+        let ratio = ours / theirs;
+        println!("{what:<34}{bytes:>8}{ours:>13.0}{theirs:>11.0}{ratio:>8.2}  <= {target:.1}");
+    }
+}
+
+/// The nanoseconds of one call.
+fn time(calls: usize, buf: &mut [u8], call: impl Fn(&mut [u8])) -> f64 {
+    let start = Instant::now();
+    for _ in 0..calls {
+        call(buf);
+    }
+    start.elapsed().as_nanos() as f64 / calls as f64
+}

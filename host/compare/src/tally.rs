@@ -1,0 +1,89 @@
+//! Counts the cases of one kind of comparison.
+
+use std::fmt::Debug;
+
+/// One kind of comparison.
+pub struct Kind {
+    pub name: &'static str,
+    pub cases: u64,
+    pub refused: u64,
+    pub differences: u64,
+    /// The classes that must not be empty, so that no comparison is about nothing.
+    pub classes: Vec<(&'static str, u64)>,
+    /// The first case whose answers differ.
+    pub first: Option<String>,
+}
+
+impl Kind {
+    pub fn new(name: &'static str, classes: &[&'static str]) -> Self {
+        let classes = classes.iter().map(|&class| (class, 0)).collect();
+        Kind { name, cases: 0, refused: 0, differences: 0, classes, first: None }
+    }
+
+    /// Counts a case whose expected answer has this refusal.
+    pub fn case<A: PartialEq + Debug>(
+        &mut self,
+        question: &dyn Debug,
+        refusal: u8,
+        library: A,
+        rust: A,
+    ) {
+        self.cases += 1;
+        self.refused += u64::from(refusal != 0);
+        self.class(refusal_class(refusal), 1);
+        if library != rust {
+            self.differences += 1;
+            self.first.get_or_insert_with(|| {
+                format!("{question:?}\n  library: {library:?}\n  Rust:    {rust:?}")
+            });
+        }
+    }
+
+    /// Counts so many cases for a class.
+    pub fn class(&mut self, class: &str, cases: usize) {
+        for (name, count) in &mut self.classes {
+            *count += if *name == class { cases as u64 } else { 0 };
+        }
+    }
+
+    /// Counts the case for a class if it is of that class.
+    pub fn class_if(&mut self, class: &str, belongs: bool) {
+        self.class(class, usize::from(belongs));
+    }
+
+    /// The classes that no case was of.
+    pub fn empty_classes(&self) -> impl Iterator<Item = &'static str> {
+        self.classes.iter().filter(|(_, count)| *count == 0).map(|(name, _)| *name)
+    }
+
+    /// The name of the first class and its count, then the next, and so on.
+    pub fn classes_line(&self) -> String {
+        let counts = self.classes.iter().map(|(name, count)| format!("{name} {count}"));
+        counts.collect::<Vec<_>>().join(", ")
+    }
+}
+
+fn refusal_class(refusal: u8) -> &'static str {
+    match refusal {
+        0 => "accepted",
+        1 => "refusal 1",
+        2 => "refusal 2",
+        8 => "refusal 8",
+        11 => "refusal 11",
+        _ => "another refusal",
+    }
+}
+
+#[test]
+fn a_difference_and_an_empty_class_are_seen() {
+    let mut kind = Kind::new("kind", &["refusal 1", "even"]);
+    kind.case(&"a", 0, 5, 5);
+    kind.class_if("even", true);
+    assert_eq!((kind.differences, kind.first.as_deref()), (0, None));
+    assert_eq!(kind.empty_classes().collect::<Vec<_>>(), ["refusal 1"]);
+    kind.case(&"b", 1, 5, 6);
+    kind.case(&"c", 1, 5, 7);
+    assert_eq!((kind.cases, kind.refused, kind.differences), (3, 2, 2));
+    assert_eq!(kind.first.as_deref(), Some("\"b\"\n  library: 5\n  Rust:    6"));
+    assert_eq!(kind.empty_classes().count(), 0);
+}

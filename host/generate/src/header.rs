@@ -1,0 +1,78 @@
+//! Sector headers (ECMA-267): four bytes of ID, two of IED.
+//!
+//! The bytes are coefficients, the first one the highest, in the field of 256 elements of
+//! x^8 + x^4 + x^3 + x^2 + 1, whose α is 2.
+
+use crate::Rng;
+
+pub type Header = [u8; 6];
+
+/// The product of two elements, by shifting and adding.
+pub fn times(a: u8, b: u8) -> u8 {
+    let mut sum = 0;
+    let mut shifted = a;
+    for bit in 0..8 {
+        if b >> bit & 1 == 1 {
+            sum ^= shifted;
+        }
+        let carry = shifted >> 7;
+        shifted = (shifted << 1) ^ (carry * 0x1d);
+    }
+    sum
+}
+
+/// The two lowest coefficients that are left of a header when it is divided by
+/// (x + 1)(x + α) = x^2 + (1 + α)x + α.
+pub fn remainder(header: Header) -> [u8; 2] {
+    const ALPHA: u8 = 2;
+    let mut rest = header;
+    for high in 0..4 {
+        let factor = rest[high];
+        rest[high] ^= factor;
+        rest[high + 1] ^= times(factor, 1 ^ ALPHA);
+        rest[high + 2] ^= times(factor, ALPHA);
+    }
+    [rest[4], rest[5]]
+}
+
+/// Whether a header is a multiple of the polynomial.
+pub fn is_sound(header: Header) -> bool {
+    remainder(header) == [0, 0]
+}
+
+/// The sound header of an ID: its IED is the remainder of the ID with two zero bytes behind.
+pub fn correct(id: [u8; 4]) -> Header {
+    let [a, b, c, d] = id;
+    let [e, f] = remainder([a, b, c, d, 0, 0]);
+    [a, b, c, d, e, f]
+}
+
+/// A header that differs from the given one in one or two bytes.
+pub fn damaged(rng: &mut Rng, header: Header) -> Header {
+    let mut changed = header;
+    let first = rng.below(6);
+    changed[first] ^= rng.nonzero();
+    if rng.below(2) == 0 {
+        changed[(first + 1 + rng.below(5)) % 6] ^= rng.nonzero();
+    }
+    changed
+}
+
+/// Every header that differs from the given one in exactly one byte.
+pub fn single_changes(header: Header) -> impl Iterator<Item = Header> {
+    (0..6).flat_map(move |at| {
+        (1..=255).map(move |change| {
+            let mut changed = header;
+            changed[at] ^= change;
+            changed
+        })
+    })
+}
+
+/// The ID of a sector at an address, or any four bytes.
+pub fn any_id(rng: &mut Rng, lsn: usize) -> [u8; 4] {
+    match rng.below(2) {
+        0 => (0x03_0000 + lsn as u32).to_be_bytes(),
+        _ => (rng.word() as u32).to_be_bytes(),
+    }
+}

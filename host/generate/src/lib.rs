@@ -1,0 +1,13 @@
+//! A deterministic generator of disc images and of questions about them: the same seed gives
+//! the same cases everywhere.
+
+pub mod header;
+pub mod image;
+pub mod layout;
+pub mod question;
+mod rng;
+
+pub use rng::Rng;
+
+#[cfg(test)]
+mod tests;

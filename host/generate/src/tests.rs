@@ -1,0 +1,131 @@
+use crate::Rng;
+use crate::header::{Header, correct, damaged, is_sound, single_changes, times};
+use crate::image::{CONTENTS, Image, any_image};
+use crate::layout::{DATA, layout};
+use crate::question::{any_byte_count, any_place, any_run, any_table};
+
+fn images(seed: u64, cases: u64) -> impl Iterator<Item = Image> {
+    (0..cases).map(move |case| any_image(&mut Rng::of_case(seed, case)))
+}
+
+#[test]
+fn the_same_seed_gives_the_same_images() {
+    assert!(images(7, 200).eq(images(7, 200)));
+    assert!(images(7, 200).ne(images(8, 200)));
+}
+
+#[test]
+fn splitmix_gives_its_published_numbers() {
+    let mut rng = Rng::new(1234567);
+    let first = [rng.word(), rng.word(), rng.word()];
+    assert_eq!(first, [6457827717110365317, 3203168211198807973, 9817491932198370423]);
+}
+
+#[test]
+fn every_format_meets_every_edge() {
+    let lengths: Vec<_> =
+        images(1, 20_000).map(|image| (image.format, image.bytes.len())).collect();
+    for format in 0..3 {
+        let form = layout(format).unwrap();
+        for edge in [0, form.data_at, form.data_at + DATA, form.stored] {
+            for length in edge + form.stored - 1..=edge + form.stored + 1 {
+                assert!(lengths.contains(&(format, length)), "format {format}, length {length}");
+            }
+        }
+    }
+}
+
+#[test]
+fn every_format_has_none_to_140_sectors_and_all_contents() {
+    for format in 0..3 {
+        let all: Vec<_> = images(1, 2_000).filter(|image| image.format == format).collect();
+        assert!(all.iter().any(|image| image.bytes.is_empty()));
+        assert!(all.iter().any(|image| image.sectors() > 128));
+        assert!(all.iter().all(|image| image.sectors() <= 141));
+        for contents in CONTENTS {
+            let full = |image: &Image| image.contents == contents && image.sectors() > 0;
+            assert!(all.iter().any(full), "{contents:?}");
+        }
+    }
+    assert!(images(1, 500).any(|image| layout(image.format).is_none()));
+}
+
+#[test]
+fn images_have_sound_and_damaged_headers() {
+    let (mut sound, mut unsound) = (0, 0);
+    for image in images(1, 500).filter(|image| image.format == 2) {
+        for sector in image.bytes.chunks_exact(2064) {
+            let header: Header = sector[..6].try_into().unwrap();
+            sound += usize::from(is_sound(header) && header != [0; 6]);
+            unsound += usize::from(!is_sound(header));
+        }
+    }
+    assert!(sound > 100 && unsound > 100, "{sound} sound, {unsound} not");
+}
+
+#[test]
+fn lent_buffers_stay_small() {
+    for case in 0..20_000 {
+        let mut rng = Rng::of_case(3, case);
+        let sectors = rng.below(140);
+        let run = any_run(&mut rng, sectors);
+        let place = any_place(&mut rng, run);
+        assert!(place.len < 1 << 21, "{run:?} {place:?}");
+    }
+}
+
+#[test]
+fn numbers_are_asked_for_inside_across_and_behind_the_end() {
+    let tables: Vec<_> = (0..1000).map(|case| any_table(&mut Rng::of_case(3, case))).collect();
+    let left = |(table, at): &(Vec<u8>, usize)| table.len().saturating_sub(*at);
+    assert!(tables.iter().any(|asked| left(asked) >= 4));
+    assert!(tables.iter().any(|asked| (1..4).contains(&left(asked))));
+    assert!(tables.iter().any(|(table, at)| table.len() == *at));
+    assert!(tables.iter().any(|(table, at)| *at == usize::MAX && !table.is_empty()));
+}
+
+#[test]
+fn byte_counts_reach_the_largest() {
+    let mut rng = Rng::new(3);
+    assert!((0..4000).any(|_| any_byte_count(&mut rng, 2064) > usize::MAX - 4128));
+}
+
+#[test]
+fn the_powers_of_alpha_come_back_after_255() {
+    assert_eq!((times(2, 0x80), times(0x80, 2)), (0x1d, 0x1d));
+    let mut power = 1;
+    for step in 1..=255 {
+        power = times(power, 2);
+        assert_eq!(power == 1, step == 255);
+    }
+}
+
+#[test]
+fn division_agrees_with_the_two_headers_of_the_document() {
+    assert!(is_sound([0, 0, 0, 1, 3, 2]));
+    assert!(!is_sound([0, 0, 0, 1, 2, 3]));
+}
+
+/// The value of the header's polynomial at a place.
+fn value(header: Header, place: u8) -> u8 {
+    header.iter().fold(0, |sum, &byte| times(sum, place) ^ byte)
+}
+
+#[test]
+fn sound_headers_are_those_that_vanish_at_both_roots() {
+    let mut rng = Rng::new(5);
+    for _ in 0..2000 {
+        let sound = correct((rng.word() as u32).to_be_bytes());
+        assert!(is_sound(sound));
+        for header in [sound, damaged(&mut rng, sound)] {
+            assert_eq!(is_sound(header), value(header, 1) == 0 && value(header, 2) == 0);
+        }
+    }
+}
+
+#[test]
+fn no_single_change_is_sound() {
+    let header = correct([0, 3, 1, 254]);
+    assert_eq!(single_changes(header).count(), 6 * 255);
+    assert!(single_changes(header).all(|changed| !is_sound(changed)));
+}

@@ -1,0 +1,40 @@
+//! The C interface of libsacd.a, as the crate `sacd` of the repository exports it.
+//! A slice is a pointer and then a length.
+
+use crate::{AuditAnswer, Comparison, Fingerprint};
+
+unsafe extern "C" {
+    pub safe fn sacd_sector_count(format: u32, bytes: usize) -> usize;
+    pub safe fn sacd_contains(format: u32, bytes: usize, lsn: u32, count: usize) -> bool;
+    pub fn sacd_read_sectors(
+        format: u32,
+        image: *const u8,
+        image_len: usize,
+        lsn: u32,
+        count: usize,
+        buf: *mut u8,
+        buf_len: usize,
+        at: usize,
+    ) -> u8;
+    pub fn sacd_compare_sectors(
+        format: u32,
+        image: *const u8,
+        image_len: usize,
+        lsn: u32,
+        count: usize,
+        bytes: *const u8,
+        bytes_len: usize,
+    ) -> Comparison;
+    pub safe fn sacd_wrapping_mul(a: u64, b: u64) -> u64;
+    pub fn sacd_digest(bytes: *const u8, bytes_len: usize) -> u64;
+    pub fn sacd_fingerprint(
+        format: u32,
+        image: *const u8,
+        image_len: usize,
+        lsn: u32,
+    ) -> Fingerprint;
+    pub fn sacd_audit(format: u32, image: *const u8, image_len: usize, lsn: u32) -> AuditAnswer;
+    pub fn sacd_byte_at(table: *const u8, table_len: usize, at: usize) -> u8;
+    pub fn sacd_be16_at(table: *const u8, table_len: usize, at: usize) -> u16;
+    pub fn sacd_be32_at(table: *const u8, table_len: usize, at: usize) -> u32;
+}
