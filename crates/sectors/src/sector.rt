@@ -25,7 +25,7 @@ pub fn is_foreign(format: u32) -> bool
 }
 
 // Bytes of a stored sector; 0 in a foreign format.
-pub fn stored_size(format: u32) -> usize
+pub(crate) fn stored_size(format: u32) -> usize
     ensures { λ r. ⌜ r ≡ storedSize format ⌝ }
 {
     match format {
@@ -37,7 +37,7 @@ pub fn stored_size(format: u32) -> usize
 }
 
 // Where the data begin in a stored sector; 0 in a foreign format.
-pub fn data_offset(format: u32) -> usize
+pub(crate) fn data_offset(format: u32) -> usize
     ensures { λ r. ⌜ r ≡ dataOffset format ⌝ }
 {
     match format {

@@ -1,4 +1,5 @@
 -- `sectors::header::audit_answer` meets its contract, case by case. Assumes nothing.
+use mathlib.Core.Path.{sym, ap}
 use borrow.Author.Needs.{needs}
 use Rattle.sectors.specs.Audit.{answerOf}
 use Rattle.sectors.proofs.header.audit_answer.Statement.{statement}
@@ -21,23 +22,23 @@ enum-told-5 c = search needs
 
 returns : tie.Need-returns
 unfolding answerOf
-returns c = cc
+returns c = sym (ap answerOf (c .enum-told .given .1))
 
 returns-2 : tie.Need-returns-2
 unfolding answerOf
-returns-2 c = cc
+returns-2 c = sym (ap answerOf (c .enum-told2 .given .1))
 
 returns-3 : tie.Need-returns-3
 unfolding answerOf
-returns-3 c = cc
+returns-3 c = sym (ap answerOf (c .enum-told3 .given .1))
 
 returns-4 : tie.Need-returns-4
 unfolding answerOf
-returns-4 c = cc
+returns-4 c = sym (ap answerOf (c .enum-told4 .given .1))
 
 returns-5 : tie.Need-returns-5
 unfolding answerOf
-returns-5 c = cc
+returns-5 c = sym (ap answerOf (c .enum-told5 .given .1))
 
 pub audit-answer-spec : {M : Type 1} → statement M
 audit-answer-spec =
