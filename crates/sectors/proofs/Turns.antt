@@ -6,13 +6,13 @@ use mathlib.Core.List.{List, _++_}
 use native.Mathlib.Numerals.{add-one}
 use native.Mathlib.Omega.{arith}
 use borrow.Rule.Slice.PartMut.{putMid}
-use lib.ListN.{length, take, drop, take-append-drop}
+use lib.ListN.{length, take, drop, take-append-drop, length-take, length-drop}
 use lib.Seq.{drop-drop, take-add, length-take-le}
 use Rattle.sectors.specs.Fill.{part, fill}
 use Rattle.sectors.specs.FillLaws.{part-front, fill-more}
 use Rattle.sectors.specs.Format.{sectorSize}
 use Rattle.sectors.specs.Sector.{readable, sectorData, runData}
-use Rattle.sectors.specs.SectorLaws.{sector-of-run, sector-length, run-shorter, run-length, run-part}
+use Rattle.sectors.specs.SectorLaws.{readable-true, count-bound, sector-of-run, sector-length, run-shorter, run-length, run-part}
 use Rattle.sectors.specs.Run.{same}
 use Rattle.sectors.specs.RunLaws.{same-eq, same-refl, same-append}
 
@@ -29,6 +29,21 @@ unfolding fill
 put-fill at n old new e = rw (drop-drop n at old, ← e)
 
 module _ (format : ℕ) (image : List ℕ) (first count k : ℕ) (there : readable format (length image) first count ≡ true) (more : k < count) where
+  -- the address of the next sector is no larger than the image
+  pub address-bound : first + k ≤ length image
+  address-bound = omega (arith, readable-true format (length image) first count there, count-bound format (length image))
+
+  -- the next sector is in the image
+  pub next-there : readable format (length image) (first + k) 1 ≡ true
+  next-there = sector-of-run format image first count k there more
+
+  -- its data, and as many bytes of a buffer that has room for all
+  pub next-length : (next buf : List ℕ) (to : ℕ) → next ≡ sectorData format image (first + k) → to + sectorSize ≤ length buf
+      → length next ≡ length (take (to + sectorSize - to) (drop to buf))
+  next-length next buf to e room =
+      let d = ap length e ∙ sector-length format image (first + k) next-there in
+      simp (length-take, length-drop) (omega arith)
+
   abbrev run : ℕ → List ℕ
   run n = runData format image first n
 
@@ -39,8 +54,8 @@ module _ (format : ℕ) (image : List ℕ) (first count k : ℕ) (there : readab
   so-far : length (run k) ≡ k * sectorSize
   so-far = run-length format image first k (run-shorter format image first count k there (omega arith))
 
-  next-length : length (sectorData format image (first + k)) ≡ sectorSize
-  next-length = sector-length format image (first + k) (sector-of-run format image first count k there more)
+  sector-size : length (sectorData format image (first + k)) ≡ sectorSize
+  sector-size = sector-length format image (first + k) next-there
 
   -- the sector is copied behind those before it
   pub copy-turn : (old buf last : List ℕ) (at to : ℕ) → at + count * sectorSize ≤ length old → to ≡ at + k * sectorSize
@@ -48,7 +63,7 @@ module _ (format : ℕ) (image : List ℕ) (first count k : ℕ) (there : readab
       → putMid to (to + sectorSize - to) buf last ≡ fill at (run (k + 1)) old
   copy-turn old buf last at to room et eb el =
       let l = so-far in
-      let s = next-length in
+      let s = sector-size in
       let size : length last ≡ to + sectorSize - to = omega (arith, ap length el) in
       let here : to ≡ at + length (run k) = omega arith in
       put-fill to (to + sectorSize - to) buf last size

@@ -1,7 +1,7 @@
 -- The header audit (01, "Header"; "audit 1, 11, 8"). Assumes nothing.
 use mathlib.Core.Path.{_≡_}
-use Prim.Native.Nat.{ℕ, _*_}
-use mathlib.Core.Bool.{Bool, true, cond}
+use Prim.Native.Nat.{ℕ, _+_, _*_}
+use mathlib.Core.Bool.{Bool, true, false, cond}
 use mathlib.Core.List.{List}
 use lib.Dec.{eqb}
 use lib.ListN.{length, take, drop}
@@ -14,34 +14,41 @@ use Rattle.sectors.specs.declared.header.AuditResult.the-variants as aud
 use Rattle.sectors.specs.declared.header.AuditAnswer.{AuditAnswer}
 
 -- a refusal, and what is answered where there is none: 1 for sound, 0 for unsound
-abbrev pub refused : ℕ → AuditAnswer
+abbrev refused : ℕ → AuditAnswer
 refused number = record { refusal = number; sound = 0 }
 
-abbrev pub judged : Bool → AuditAnswer
+abbrev judged : Bool → AuditAnswer
 judged test = record { refusal = 0; sound = cond test 1 0 }
 
 -- 01's number, and the value, of each case of the enum
 unfoldable pub answerOf : AuditResult → AuditAnswer
-answerOf audit.Sound = record { refusal = 0; sound = 1 }
-answerOf audit.Unsound = record { refusal = 0; sound = 0 }
+answerOf audit.Sound = judged true
+answerOf audit.Unsound = judged false
 answerOf audit.ForeignFormat = refused foreignFormat
 answerOf audit.NoHeader = refused noHeader
 answerOf audit.NoSuchEntry = refused noSuchEntry
 
--- "Header (ECMA-267): 4 bytes ID, 2 bytes IED": the six bytes at the start of a stored sector of format 2
+-- "11 | no header | audit of format 0 or 1": the format that has headers is the third, 2
+abbrev pub headerFormat : ℕ
+headerFormat = 2
+
+-- "Header (ECMA-267): 4 bytes ID, 2 bytes IED": the six bytes at the start of a stored sector
+abbrev pub headerSize : ℕ
+headerSize = 4 + 2
+
 unfoldable pub headerAt : List ℕ → ℕ → List ℕ
-headerAt image lsn = take 6 (drop (lsn * storedSize 2) image)
+headerAt image lsn = take headerSize (drop (lsn * storedSize headerFormat) image)
 
 -- "audit 1, 11, 8": "format is not 0 .., 1 .., 2 ..", "audit of format 0 or 1", "sector not in the image"
 unfoldable pub auditOf : ℕ → List ℕ → ℕ → AuditAnswer
 auditOf format image lsn =
     cond (foreign format) (refused foreignFormat)
-    (cond (eqb format 2)
+    (cond (eqb format headerFormat)
     (cond (readable format (length image) lsn 1) (judged (isSound (headerAt image lsn))) (refused noSuchEntry))
     (refused noHeader))
 
--- The sector is one of a format 2 image, and its header is sound.
+-- The sector is one of an image that has headers, and its header is sound.
 pub record SoundIn (format : ℕ) (image : List ℕ) (lsn : ℕ) : Type 0 where
-  pub has-header : format ≡ 2
-  pub is-there : readable 2 (length image) lsn 1 ≡ true
+  pub has-header : format ≡ headerFormat
+  pub is-there : readable headerFormat (length image) lsn 1 ≡ true
   pub is-sound : Sound (headerAt image lsn)

@@ -24,7 +24,7 @@ fnvStep hash byte = bitXor hash byte * prime % 2 ^ 64
 unfoldable pub digestOf : List ℕ → ℕ
 digestOf bytes = foldl fnvStep offsetBasis bytes
 
-abbrev pub refused : ℕ → FingerprintAnswer
+abbrev refused : ℕ → FingerprintAnswer
 refused number = record { refusal = number; digest = 0 }
 
 -- "Fingerprint: .. FNV-1a of a sector's 2,048 data bytes"; "fingerprint 1, 8".

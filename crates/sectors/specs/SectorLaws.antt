@@ -32,14 +32,6 @@ known-size (suc zero) h = omega arith
 known-size (suc (suc zero)) h = omega arith
 known-size (suc (suc (suc n))) h = omega (arith, leb-false 3 (suc (suc (suc n))) h)
 
--- no stored sector is longer than 2,064 bytes, and data begin in it
-pub size-bound : (format : ℕ) → (dataOffset format ≤ storedSize format) × (storedSize format ≤ 2064)
-unfolding storedSize dataOffset
-size-bound zero = (omega arith, omega arith)
-size-bound (suc zero) = (omega arith, omega arith)
-size-bound (suc (suc zero)) = (omega arith, omega arith)
-size-bound (suc (suc (suc n))) = (omega arith, omega arith)
-
 -- ---- which sectors are readable
 
 -- `readable` says that the run ends by the last whole sector, and nothing else

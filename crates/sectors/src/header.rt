@@ -5,6 +5,9 @@ ghost use lib.ListN.{length};
 ghost use Rattle.sectors.specs.Header.{Sound, atOne, atAlpha, isSound};
 ghost use Rattle.sectors.specs.Audit.{SoundIn, answerOf, auditOf};
 use crate::field::times_alpha;
+use crate::refusal::FOREIGN_FORMAT;
+use crate::refusal::NO_HEADER;
+use crate::refusal::NO_SUCH_ENTRY;
 use crate::sector::Lsn;
 use crate::sector::contains;
 use crate::sector::is_foreign;
@@ -102,15 +105,15 @@ pub fn audit_answer(a: AuditResult) -> AuditAnswer
             sound: 0,
         },
         AuditResult::ForeignFormat => AuditAnswer {
-            refusal: 1,
+            refusal: FOREIGN_FORMAT,
             sound: 0,
         },
         AuditResult::NoHeader => AuditAnswer {
-            refusal: 11,
+            refusal: NO_HEADER,
             sound: 0,
         },
         AuditResult::NoSuchEntry => AuditAnswer {
-            refusal: 8,
+            refusal: NO_SUCH_ENTRY,
             sound: 0,
         },
     }

@@ -1,14 +1,13 @@
 -- `sectors::run::copy_run` meets its contract: after k turns the data of k sectors fill the buffer. Assumes nothing.
-use mathlib.Core.Path.{_≡_, refl, sym, ap, _∙_}
+use mathlib.Core.Path.{_≡_, refl, sym, _∙_}
 use Prim.Native.Nat.{_+_, _*_, _-_, _≤_}
 use native.Mathlib.Omega.{arith}
 use denote.Ref.{now}
-use lib.ListN.{length, length-take, length-drop}
+use lib.ListN.{length}
 use Rattle.sectors.specs.Fill.{fill}
 use Rattle.sectors.specs.FillLaws.{fill-none}
 use Rattle.sectors.specs.Sector.{runData}
-use Rattle.sectors.specs.SectorLaws.{readable-true, count-bound, sector-of-run, sector-length}
-use Rattle.sectors.proofs.Turns.{copy-turn}
+use Rattle.sectors.proofs.Turns.{address-bound, next-there, next-length, copy-turn}
 use borrow.Author.Needs.{needs}
 use Rattle.sectors.proofs.run.copy_run.Statement.{statement}
 use Rattle.sectors.proofs.run.copy_run.Tie as tie
@@ -25,13 +24,13 @@ loop-holds c = let a = c .before .before .args in (search needs, omega arith, re
 
 add-stored-data : tie.Need-add-stored-data Inv-loop μ-loop
 add-stored-data c =
-    let start = c .before .before .before .before in let a = start .args in let l = c .before .loop in
-    omega (arith, readable-true (a .format) (length (now (a .image))) (a .first) (a .count) (start .pre .0), count-bound (a .format) (length (now (a .image))))
+    let start = c .before .before .before .before in let a = start .args in
+    omega (arith, address-bound _ (now (a .image)) (a .first) _ _ (start .pre .0) (c .loop-test .taken))
 
 stored-data-requires : tie.Need-stored-data-requires Inv-loop μ-loop
 stored-data-requires c κs =
-    let start = c .before .before .before .before in let a = start .args in let l = c .before .loop in
-    sector-of-run (a .format) (now (a .image)) (a .first) (a .count) (l .k) (start .pre .0) (omega arith)
+    let start = c .before .before .before .before in let a = start .args in
+    next-there _ (now (a .image)) (a .first) _ _ (start .pre .0) (c .loop-test .taken)
 
 add-copy-bytes : tie.Need-add-copy-bytes Inv-loop μ-loop
 add-copy-bytes c = search needs
@@ -48,9 +47,7 @@ part-copy-bytes-end c = search needs
 copy-bytes-requires : tie.Need-copy-bytes-requires Inv-loop μ-loop
 copy-bytes-requires c κs =
     let start = c .before .before .before .before .before .before in let a = start .args in let l = c .before .before .before .loop in
-    let d = c .before .stored-data in
-    let n = ap length (d .ensures) ∙ sector-length (a .format) (now (a .image)) (a .first + l .k) (sector-of-run (a .format) (now (a .image)) (a .first) (a .count) (l .k) (start .pre .0) (omega arith)) in
-    simp (length-take, length-drop) (omega arith)
+    next-length _ (now (a .image)) (a .first) _ (l .k) (start .pre .0) (c .before .before .loop-test .taken) _ (l .buf) (l .to) (c .before .stored-data .ensures) (omega arith)
 
 add-to : tie.Need-add-to Inv-loop μ-loop
 add-to c = search needs
@@ -64,10 +61,10 @@ loop-less c = search needs
 loop-again : tie.Need-loop-again Inv-loop μ-loop
 loop-again c =
     let start = c .before .before .before .before .before .before .before .before .before in let a = start .args in let l = c .before .before .before .before .before .before .loop in (
-      omega arith,
-      omega arith,
       search needs,
-      copy-turn (a .format) (now (a .image)) (a .first) (a .count) (l .k) (start .pre .0) (omega arith) (now (a .buf)) (l .buf) _ (a .at) (l .to) (start .pre .1) (l .inv .1) (l .inv .3)
+      search needs,
+      search needs,
+      copy-turn _ (now (a .image)) (a .first) _ (l .k) (start .pre .0) (c .before .before .before .before .before .loop-test .taken) (now (a .buf)) _ _ _ (l .to) (start .pre .1) (l .inv .1) (l .inv .3)
           (c .before .before .copy-bytes .ensures ∙ c .before .before .before .before .stored-data .ensures),
     )
 

@@ -1,15 +1,14 @@
 -- `sectors::run::same_run` meets its contract: after k turns the data of k sectors are the lent bytes. Assumes nothing.
-use mathlib.Core.Path.{_≡_, refl, sym, ap, ap₂, _∙_}
+use mathlib.Core.Path.{_≡_, refl, sym, ap₂, _∙_}
 use mathlib.Core.Bool.{true}
-use Prim.Native.Nat.{_+_, _*_, _-_, _≤_}
+use Prim.Native.Nat.{_*_, _-_, _≤_}
 use native.Mathlib.Omega.{arith}
 use denote.Ref.{now}
-use lib.ListN.{length, take, length-take, length-drop}
+use lib.ListN.{take}
 use borrow.Author.Tests.{not-true, not-false}
 use Rattle.sectors.specs.Run.{same}
 use Rattle.sectors.specs.Sector.{runData}
-use Rattle.sectors.specs.SectorLaws.{readable-true, count-bound, sector-of-run, sector-length}
-use Rattle.sectors.proofs.Turns.{bytes-part, same-turn, same-stop}
+use Rattle.sectors.proofs.Turns.{address-bound, next-there, next-length, bytes-part, same-turn, same-stop}
 use borrow.Author.Needs.{needs}
 use Rattle.sectors.proofs.run.same_run.Statement.{statement}
 use Rattle.sectors.proofs.run.same_run.Tie as tie
@@ -26,13 +25,13 @@ loop-holds c = (search needs, refl, refl)
 
 add-stored-data : tie.Need-add-stored-data Inv-loop μ-loop
 add-stored-data c =
-    let start = c .before .before .before .before in let a = start .args in let l = c .before .loop in
-    omega (arith, readable-true (a .format) (length (now (a .image))) (a .first) (a .count) (start .pre .0), count-bound (a .format) (length (now (a .image))))
+    let start = c .before .before .before .before in let a = start .args in
+    omega (arith, address-bound _ (now (a .image)) (a .first) _ _ (start .pre .0) (c .loop-test .taken))
 
 stored-data-requires : tie.Need-stored-data-requires Inv-loop μ-loop
 stored-data-requires c κs =
-    let start = c .before .before .before .before in let a = start .args in let l = c .before .loop in
-    sector-of-run (a .format) (now (a .image)) (a .first) (a .count) (l .k) (start .pre .0) (omega arith)
+    let start = c .before .before .before .before in let a = start .args in
+    next-there _ (now (a .image)) (a .first) _ _ (start .pre .0) (c .loop-test .taken)
 
 add-same-bytes : tie.Need-add-same-bytes Inv-loop μ-loop
 add-same-bytes c = search needs
@@ -49,15 +48,14 @@ part-same-bytes-end c = search needs
 same-bytes-requires : tie.Need-same-bytes-requires Inv-loop μ-loop
 same-bytes-requires c κs =
     let start = c .before .before .before .before .before .before in let a = start .args in let l = c .before .before .before .loop in
-    let d = c .before .stored-data in
-    let n = ap length (d .ensures) ∙ sector-length (a .format) (now (a .image)) (a .first + l .k) (sector-of-run (a .format) (now (a .image)) (a .first) (a .count) (l .k) (start .pre .0) (omega arith)) in
-    simp (length-take, length-drop) (omega arith)
+    next-length _ (now (a .image)) (a .first) _ (l .k) (start .pre .0) (c .before .before .loop-test .taken) _ (now (a .bytes)) (l .to) (c .before .stored-data .ensures) (omega arith)
 
 returns : tie.Need-returns Inv-loop μ-loop
 returns c =
     let start = c .before .before .before .before .before .before .before .before in let a = start .args in let l = c .before .before .before .before .before .loop in
+    let more = c .before .before .before .before .loop-test .taken in
     let e = c .before .same-bytes .ensures ∙ ap₂ same (c .before .before .before .stored-data .ensures) (bytes-part (now (a .bytes)) (l .to) (l .k) (l .inv .1)) in
-    sym (same-stop (a .format) (now (a .image)) (a .first) (a .count) (l .k) (start .pre .0) (omega arith) (now (a .bytes)) (start .pre .1) (sym e ∙ not-true _ (c .if1 .taken)))
+    sym (same-stop _ (now (a .image)) (a .first) _ (l .k) (start .pre .0) more (now (a .bytes)) (start .pre .1) (sym e ∙ not-true _ (c .if1 .taken)))
 
 add-to : tie.Need-add-to Inv-loop μ-loop
 add-to c = search needs
@@ -71,8 +69,9 @@ loop-less c = search needs
 loop-again : tie.Need-loop-again Inv-loop μ-loop
 loop-again c =
     let start = c .before .before .before .before .before .before .before .before in let a = start .args in let l = c .before .before .before .before .before .loop in
+    let more = c .before .before .before .before .loop-test .taken in
     let e = c .before .same-bytes .ensures ∙ ap₂ same (c .before .before .before .stored-data .ensures) (bytes-part (now (a .bytes)) (l .to) (l .k) (l .inv .1)) in
-    (omega arith, omega arith, same-turn (a .format) (now (a .image)) (a .first) (a .count) (l .k) (start .pre .0) (omega arith) (now (a .bytes)) (start .pre .1) (l .inv .2) (sym e ∙ not-false _ (c .if1 .left)))
+    (search needs, search needs, same-turn _ (now (a .image)) (a .first) _ (l .k) (start .pre .0) more (now (a .bytes)) (start .pre .1) (l .inv .2) (sym e ∙ not-false _ (c .if1 .left)))
 
 returns-2 : tie.Need-returns-2 Inv-loop μ-loop
 returns-2 c =
