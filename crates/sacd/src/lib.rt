@@ -2,7 +2,7 @@
 ghost use mathlib.Core.Path.{_≡_};
 ghost use Prim.Native.Nat.{_*_, _%_, _^_};
 ghost use lib.ListN.{length};
-ghost use Rattle.sectors.specs.Audit.{auditOf};
+ghost use Rattle.sectors.specs.Audit.{SoundIn, auditOf};
 ghost use Rattle.sectors.specs.Fnv.{digestOf, fingerprintOf};
 ghost use Rattle.sectors.specs.Number.{beAt};
 ghost use Rattle.sectors.specs.Run.{readRefusal, readInto, comparisonOf};
@@ -109,7 +109,8 @@ pub extern "C" fn sacd_fingerprint(format: u32, image: &[u8], lsn: Lsn) -> Finge
 // Audits the header of a sector, in the numbers of the answer.
 #[no_mangle]
 pub extern "C" fn sacd_audit(format: u32, image: &[u8], lsn: Lsn) -> AuditAnswer
-    ensures { λ r. ⌜ r ≡ auditOf format (now (image .entry)) (lsn .0) ⌝ }
+    ensures answer { λ r. ⌜ r ≡ auditOf format (now (image .entry)) (lsn .0) ⌝ }
+    ensures decides { λ r. ⌜ (r .sound ≡ 1 → SoundIn format (now (image .entry)) (lsn .0)) × (SoundIn format (now (image .entry)) (lsn .0) → r .sound ≡ 1) ⌝ }
 {
     let answer = sectors::header::audit(format, image, lsn);
     sectors::header::audit_answer(answer)

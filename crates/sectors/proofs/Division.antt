@@ -8,21 +8,21 @@ use lib.Dec.{eqb}
 use lib.ListN.{getD, length}
 use borrow.Author.Tests.{eqb-true}
 use Rattle.sectors.specs.Field.{_⊕_, timesAlpha}
-use Rattle.sectors.specs.Header.{timesRoot, product, Sound, atOne, atAlpha, isSound}
+use Rattle.sectors.specs.Header.{timesRoot, product, Multiple, Sound, atOne, atAlpha, isMultiple, isSound}
 use Rattle.sectors.proofs.Xor.{sums, sum-lt, zero-sum, equal-if-zero}
 use Rattle.sectors.proofs.Alpha.{linear, alpha-zero, alpha-lt, only-zero-stays}
 use Rattle.sectors.proofs.Table.{places}
 
-product-passes : (a b c d : ℕ) → a < 256 → b < 256 → c < 256 → d < 256 → isSound (product (a ∷ b ∷ c ∷ d ∷ [])) ≡ true
-unfolding isSound atOne atAlpha product timesRoot
+product-passes : (a b c d : ℕ) → a < 256 → b < 256 → c < 256 → d < 256 → isMultiple (product (a ∷ b ∷ c ∷ d ∷ [])) ≡ true
+unfolding isMultiple atOne atAlpha product timesRoot
 product-passes a b c d a-lt b-lt c-lt d-lt = simp (sums, linear, alpha-zero)
 
 module _ (p₁ p₂ p₃ p₄ p₅ : ℕ) (p₁-lt : p₁ < 256) (p₂-lt : p₂ < 256) (p₃-lt : p₃ < 256) (p₄-lt : p₄ < 256) (p₅-lt : p₅ < 256) where
   -- p times x + α is at 1 the value of p there times 1 + α, so p is zero at 1 where that is
-  zero-at-one-sound : atOne (timesRoot timesAlpha 0 (p₁ ∷ p₂ ∷ p₃ ∷ p₄ ∷ p₅ ∷ [])) ≡ 0
-      → Sound (timesRoot timesAlpha 0 (p₁ ∷ p₂ ∷ p₃ ∷ p₄ ∷ p₅ ∷ []))
+  zero-at-one-multiple : atOne (timesRoot timesAlpha 0 (p₁ ∷ p₂ ∷ p₃ ∷ p₄ ∷ p₅ ∷ [])) ≡ 0
+      → Multiple (timesRoot timesAlpha 0 (p₁ ∷ p₂ ∷ p₃ ∷ p₄ ∷ p₅ ∷ []))
   unfolding atOne product timesRoot
-  zero-at-one-sound zero-at-one =
+  zero-at-one-multiple zero-at-one =
       let c-lt = sum-lt p₄-lt p₅-lt in
       let b-lt = sum-lt p₃-lt c-lt in
       let a-lt = sum-lt p₂-lt b-lt in
@@ -45,9 +45,9 @@ module _ (h₀ h₁ h₂ h₃ h₄ h₅ : ℕ) (h₀-lt : h₀ < 256) (h₁-lt :
   six = h₀ ∷ h₁ ∷ h₂ ∷ h₃ ∷ h₄ ∷ h₅ ∷ []
 
   -- Horner's values at α, where the last is zero, are the quotient by x + α
-  six-zeros-sound : atOne six ≡ 0 → atAlpha six ≡ 0 → Sound six
+  six-zeros-multiple : atOne six ≡ 0 → atAlpha six ≡ 0 → Multiple six
   unfolding atAlpha timesRoot
-  six-zeros-sound zero-at-one zero-at-alpha =
+  six-zeros-multiple zero-at-one zero-at-alpha =
       let p₂ = timesAlpha h₀ ⊕ h₁ in
       let p₃ = timesAlpha p₂ ⊕ h₂ in
       let p₄ = timesAlpha p₃ ⊕ h₃ in
@@ -58,17 +58,23 @@ module _ (h₀ h₁ h₂ h₃ h₄ h₅ : ℕ) (h₀-lt : h₀ < 256) (h₁-lt :
       let p₅-lt = sum-lt (alpha-lt p₄-lt) h₄-lt in
       let last : timesAlpha p₅ ≡ h₅ = equal-if-zero _ h₅ ((simp (zero-sum, alpha-zero)) ∙ zero-at-alpha) in
       let divided : timesRoot timesAlpha 0 (h₀ ∷ p₂ ∷ p₃ ∷ p₄ ∷ p₅ ∷ []) ≡ six = rw last (simp (sums, alpha-zero)) in
-      rw divided at (zero-at-one-sound h₀ p₂ p₃ p₄ p₅ h₀-lt p₂-lt p₃-lt p₄-lt p₅-lt (ap atOne divided ∙ zero-at-one))
+      rw divided at (zero-at-one-multiple h₀ p₂ p₃ p₄ p₅ h₀-lt p₂-lt p₃-lt p₄-lt p₅-lt (ap atOne divided ∙ zero-at-one))
 
-zeros-sound : (h : List ℕ) → length h ≡ 6 → ((i : ℕ) → getD h i 0 < 256) → atOne h ≡ 0 → atAlpha h ≡ 0 → Sound h
-zeros-sound h long byte = rw (places h 6 long) (six-zeros-sound _ _ _ _ _ _ (byte 0) (byte 1) (byte 2) (byte 3) (byte 4))
+zeros-multiple : (h : List ℕ) → length h ≡ 6 → ((i : ℕ) → getD h i 0 < 256) → atOne h ≡ 0 → atAlpha h ≡ 0 → Multiple h
+zeros-multiple h long byte = rw (places h 6 long) (six-zeros-multiple _ _ _ _ _ _ (byte 0) (byte 1) (byte 2) (byte 3) (byte 4))
 
--- the test finds what is sound, of any six bytes, and only that
-pub decides : (h : List ℕ) → length h ≡ 6 → ((i : ℕ) → getD h i 0 < 256) → (isSound h ≡ true → Sound h) × (Sound h → isSound h ≡ true)
-unfolding isSound
-decides h long byte = (
+-- the test finds the multiples, of any six bytes, and only them
+finds-multiples : (h : List ℕ) → length h ≡ 6 → ((i : ℕ) → getD h i 0 < 256) → (isMultiple h ≡ true → Multiple h) × (Multiple h → isMultiple h ≡ true)
+unfolding isMultiple
+finds-multiples h long byte = (
   (λ e.
       let zeros = and-eq-true-iff (eqb (atOne h) 0) (eqb (atAlpha h) 0) .0 e in
-      zeros-sound h long byte (eqb-true _ _ (zeros .0)) (eqb-true _ _ (zeros .1))),
+      zeros-multiple h long byte (eqb-true _ _ (zeros .0)) (eqb-true _ _ (zeros .1))),
   (λ q. rw (q .multiple) at (product-passes (q .a) (q .b) (q .c) (q .d) (q .a-byte) (q .b-byte) (q .c-byte) (q .d-byte))),
 )
+
+-- and so what is sound
+pub decides : (h : List ℕ) → length h ≡ 6 → ((i : ℕ) → getD h i 0 < 256) → (isSound h ≡ true → Sound h) × (Sound h → isSound h ≡ true)
+unfolding isSound
+decides h long byte =
+    let found = finds-multiples h long byte in ((λ e. record { is-multiple = found .0 e }), (λ s. found .1 (s .is-multiple)))

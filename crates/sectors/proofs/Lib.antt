@@ -1,6 +1,5 @@
 pub mod Alpha
 pub mod AuditCases
-pub mod Beginning
 pub mod Bounds
 pub mod Copying
 pub mod Division

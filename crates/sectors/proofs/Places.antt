@@ -1,23 +1,34 @@
--- Where a program finds the data of a sector. Assumes nothing.
+-- Where a program finds a part of a stored sector. Assumes nothing.
 use Prim.Native.Nat.{ℕ, _+_, _*_, _-_, _≤_}
-use mathlib.Core.Path.{_≡_, sym}
+use mathlib.Core.Path.{_≡_, ap, _∙_}
 use mathlib.Core.Bool.{true}
 use mathlib.Core.List.{List}
 use native.Mathlib.Omega.{arith}
 use lib.ListN.{length, take, drop}
-use Rattle.sectors.specs.Format.{storedSize, dataOffset, sectorSize}
-use Rattle.sectors.specs.Sector.{readable, sectorData}
-use Rattle.sectors.specs.SectorLaws.{sector-inside, sector-is}
+use Rattle.sectors.specs.Fill.{part}
+use Rattle.sectors.specs.FillLaws.{slice-part}
+use Rattle.sectors.specs.Format.{layoutOf, storedSize, dataOffset}
+use Rattle.sectors.specs.Sector.{readable}
+use Rattle.sectors.specs.SectorLaws.{stored-inside}
+use Rattle.sectors.specs.declared.sector.Layout.{Layout}
 
--- `stored` and `offset` are those of the format, and the sector is in the image
-module _ (format stored offset : ℕ) (es : stored ≡ storedSize format) (eo : offset ≡ dataOffset format)
-    (image : List ℕ) (lsn : ℕ) (h : readable format (length image) lsn 1 ≡ true) where
-  -- the data lie in the image
-  pub place-inside : lsn * stored + offset + sectorSize ≤ length image
-  place-inside = rw (es, eo) (sector-inside format image lsn h)
+module _ (format : ℕ) (l : Layout) (e : l ≡ layoutOf format) where
+  pub stored-is : l .stored ≡ storedSize format
+  unfolding storedSize
+  stored-is = ap (λ (l : Layout). l .stored) e
 
-  -- and are what stands there
-  pub part-is : (place : ℕ) → place ≡ lsn * stored + offset → take (place + sectorSize - place) (drop place image) ≡ sectorData format image lsn
-  part-is place e =
-      let n : place + sectorSize - place ≡ sectorSize = omega arith in
-      rw (n, e, es, eo) (sym (sector-is format image lsn h))
+  pub offset-is : l .offset ≡ dataOffset format
+  unfolding dataOffset
+  offset-is = ap (λ (l : Layout). l .offset) e
+
+  -- a part of a sector that is in the image lies in it
+  pub part-inside : (image : List ℕ) (n offset size : ℕ) → readable format (length image) n 1 ≡ true → offset + size ≤ storedSize format
+      → n * l .stored + offset + size ≤ length image
+  part-inside image n offset size there fits = rw stored-is (omega (arith, stored-inside format image n there))
+
+  -- and is what stands there
+  pub part-is : (image : List ℕ) (n offset size : ℕ)
+      → take (n * l .stored + offset + size - (n * l .stored + offset)) (drop (n * l .stored + offset) image)
+      ≡ part (n * storedSize format + offset) size image
+  part-is image n offset size =
+      slice-part (n * l .stored + offset) size image ∙ ap (λ (s : ℕ). part (n * s + offset) size image) stored-is

@@ -7,26 +7,18 @@ use native.Mathlib.Numerals.{add-one}
 use native.Mathlib.Omega.{arith}
 use borrow.Rule.Slice.PartMut.{putMid}
 use lib.ListN.{length, take, drop, take-append-drop, length-take, length-drop}
-use lib.Seq.{drop-drop, take-add, length-take-le}
+use lib.Seq.{take-add, length-take-le}
 use Rattle.sectors.specs.Fill.{part, fill}
-use Rattle.sectors.specs.FillLaws.{part-front, fill-more}
+use Rattle.sectors.specs.FillLaws.{slice-part, put-fill, part-front, fill-more}
 use Rattle.sectors.specs.Format.{sectorSize}
 use Rattle.sectors.specs.Sector.{readable, sectorData, runData}
 use Rattle.sectors.specs.SectorLaws.{readable-true, count-bound, sector-of-run, sector-length, run-shorter, run-length, run-part}
-use Rattle.sectors.specs.Run.{same}
-use Rattle.sectors.specs.RunLaws.{same-eq, same-refl, same-append}
+use Rattle.sectors.specs.Bytes.{same}
+use Rattle.sectors.specs.BytesLaws.{same-eq, same-refl, same-append}
 
 -- the lent bytes of sector k
 pub bytes-part : (bytes : List ℕ) (to k : ℕ) → to ≡ k * sectorSize → take (to + sectorSize - to) (drop to bytes) ≡ part (k * sectorSize) sectorSize bytes
-unfolding part
-bytes-part bytes to k e =
-    let n : to + sectorSize - to ≡ sectorSize = omega arith in
-    rw (n, e)
-
--- a part that a call wrote is a fill
-put-fill : (at n : ℕ) (old new : List ℕ) → length new ≡ n → putMid at n old new ≡ fill at new old
-unfolding fill
-put-fill at n old new e = rw (drop-drop n at old, ← e)
+bytes-part bytes to k e = slice-part to sectorSize bytes ∙ ap (λ (p : ℕ). part p sectorSize bytes) e
 
 module _ (format : ℕ) (image : List ℕ) (first count k : ℕ) (there : readable format (length image) first count ≡ true) (more : k < count) where
   -- the address of the next sector is no larger than the image

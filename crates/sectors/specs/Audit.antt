@@ -4,7 +4,8 @@ use Prim.Native.Nat.{ℕ, _+_, _*_}
 use mathlib.Core.Bool.{Bool, true, false, cond}
 use mathlib.Core.List.{List}
 use lib.Dec.{eqb}
-use lib.ListN.{length, take, drop}
+use lib.ListN.{length}
+use Rattle.sectors.specs.Fill.{part}
 use Rattle.sectors.specs.Refusal.{foreignFormat, noSuchEntry, noHeader}
 use Rattle.sectors.specs.Format.{foreign, storedSize}
 use Rattle.sectors.specs.Sector.{readable}
@@ -20,7 +21,7 @@ refused number = record { refusal = number; sound = 0 }
 abbrev judged : Bool → AuditAnswer
 judged test = record { refusal = 0; sound = cond test 1 0 }
 
--- 01's number, and the value, of each case of the enum
+-- "a definition states this paper's number and values for each of the enum's cases"
 unfoldable pub answerOf : AuditResult → AuditAnswer
 answerOf audit.Sound = judged true
 answerOf audit.Unsound = judged false
@@ -37,7 +38,7 @@ abbrev pub headerSize : ℕ
 headerSize = 4 + 2
 
 unfoldable pub headerAt : List ℕ → ℕ → List ℕ
-headerAt image lsn = take headerSize (drop (lsn * storedSize headerFormat) image)
+headerAt image lsn = part (lsn * storedSize headerFormat) headerSize image
 
 -- "audit 1, 11, 8": "format is not 0 .., 1 .., 2 ..", "audit of format 0 or 1", "sector not in the image"
 unfoldable pub auditOf : ℕ → List ℕ → ℕ → AuditAnswer

@@ -1,19 +1,53 @@
--- Laws of lent memory: what stands in a part of it after a fill. Assumes nothing.
-use Prim.Native.Nat.{ℕ, _+_, _-_, _≤_}
+-- Laws of lent memory: what a part of it is, and what stands in a part after a fill. Assumes nothing.
+use Prim.Native.Nat.{ℕ, suc, _+_, _-_, _≤_, _<_}
 use native.Mathlib.Omega.{arith}
 use native.Mathlib.Nat.{add-zero}
 use mathlib.Core.Path.{_≡_, sym, _∙_, ap}
-use mathlib.Core.List.{List, [], _++_, append-assoc}
-use lib.ListN.{length, take, drop, length-append, length-drop, take-append-drop}
-use lib.Seq.{length-take-le, take-append-le, drop-append-le, drop-append-add, take-append-seam, drop-drop, take-at, drop-at}
+use mathlib.Core.List.{List, [], _∷_, _++_, append-assoc}
+use borrow.Rule.Slice.PartMut.{putMid}
+use lib.ListN.{length, take, drop, getD, set, length-append, length-drop, take-append-drop}
+use lib.Seq.{length-take-le, take-append-le, drop-append-le, drop-append-add, take-append-seam, drop-drop, drop-cons, set-at, take-at, drop-at, getD-take, getD-drop}
 use Rattle.sectors.specs.Fill.{part, fill}
 
 module _ {A : Type 0} where
+  -- what a program lends as `&l[at..at + n]`
+  pub slice-part : (at n : ℕ) (l : List A) → take (at + n - at) (drop at l) ≡ part at n l
+  unfolding part
+  slice-part at n l = let e : at + n - at ≡ n = omega arith in rw e
+
+  -- what a call leaves of `&mut l[at..at + n]`
+  pub put-fill : (at n : ℕ) (old new : List A) → length new ≡ n → putMid at n old new ≡ fill at new old
+  unfolding fill
+  put-fill at n old new e = rw (drop-drop n at old, ← e)
+
+  pub part-length : (at n : ℕ) (l : List A) → at + n ≤ length l → length (part at n l) ≡ n
+  unfolding part
+  part-length at n l h = length-take-le n (drop at l) (rw length-drop (omega arith))
+
+  pub part-at : (at n : ℕ) (l : List A) (i : ℕ) (d : A) → i < n → getD (part at n l) i d ≡ getD l (at + i) d
+  unfolding part
+  part-at at n l i d q = getD-take n (drop at l) i d q ∙ getD-drop at l i d
+
   -- a part of the first of two lists
   pub part-front : (x y : List A) (at n : ℕ) → at + n ≤ length x → part at n (x ++ y) ≡ part at n x
   unfolding part
   part-front x y at n h =
       rw (drop-append-le at x y (omega arith)) (take-append-le n (drop at x) y (rw length-drop (omega arith)))
+
+  part-rest : (at n : ℕ) (l : List A) → part at n l ++ drop n (drop at l) ≡ drop at l
+  unfolding part
+  part-rest at n l = take-append-drop n (drop at l)
+
+  part-drop : (a b n : ℕ) (l : List A) → part b n (drop a l) ≡ part (a + b) n l
+  unfolding part
+  part-drop a b n l = rw (drop-drop b a l)
+
+  -- a part of a part
+  pub part-part : (a m b n : ℕ) (l : List A) → b + n ≤ m → a + m ≤ length l → part b n (part a m l) ≡ part (a + b) n l
+  part-part a m b n l h k =
+      let size = part-length a m l k in
+      let whole : part a m l ++ drop m (drop a l) ≡ drop a l = part-rest a m l in
+      sym (part-front (part a m l) (drop m (drop a l)) b n (omega arith)) ∙ ap (part b n) whole ∙ part-drop a b n l
 
   -- nothing fills nothing
   pub fill-none : (at : ℕ) (old : List A) → fill at [] old ≡ old
@@ -83,4 +117,17 @@ module _ {A : Type 0} where
           ← drop-drop (length next) (at + length new) (take at old ++ new ++ drop (at + length new) old),
           drop-at (take at old ++ new) (drop (at + length new) old) (at + length new) head,
           back,
+        ) (simp append-assoc)
+
+    -- and so is one element stored right behind it
+    pub fill-one : (x : A) → at + length new < length old → set (fill at new old) (at + length new) x ≡ fill at (new ++ (x ∷ [])) old
+    unfolding fill
+    fill-one x room =
+        let head : length (take at old ++ new) ≡ at + length new = rw (length-append, front-length) in
+        let end : at + length (new ++ (x ∷ [])) ≡ suc (at + length new) = rw length-append (omega arith) in
+        rw (
+          ← append-assoc (take at old) new (drop (at + length new) old),
+          drop-cons old (at + length new) x,
+          set-at (take at old ++ new) (getD old (at + length new) x) (drop (suc (at + length new)) old) x (at + length new) head,
+          end,
         ) (simp append-assoc)

@@ -29,8 +29,8 @@ pub record Multiple (h : List ℕ) : Type 0 where
   pub multiple : product (a ∷ b ∷ c ∷ d ∷ []) ≡ h
 
 -- "It is sound when the six .. are a multiple of (x + 1)(x + α)".
-abbrev pub Sound : List ℕ → Type 0
-Sound h = Multiple h
+pub record Sound (h : List ℕ) : Type 0 where
+  pub is-multiple : Multiple h
 
 -- The polynomial's value at 1 and at α, its syndromes, by Horner's rule.
 unfoldable pub atOne : List ℕ → ℕ
@@ -39,6 +39,9 @@ atOne h = foldl _⊕_ 0 h
 unfoldable pub atAlpha : List ℕ → ℕ
 atAlpha h = foldl (λ v a. timesAlpha v ⊕ a) 0 h
 
--- The test that decides `Sound` of six bytes: zero at both roots.
+-- The tests that decide `Multiple` and `Sound` of six bytes: zero at both roots.
+unfoldable pub isMultiple : List ℕ → Bool
+isMultiple h = eqb (atOne h) 0 && eqb (atAlpha h) 0
+
 unfoldable pub isSound : List ℕ → Bool
-isSound h = eqb (atOne h) 0 && eqb (atAlpha h) 0
+isSound h = isMultiple h

@@ -1,10 +1,14 @@
 pub mod Options
+pub mod OptionLaws
+pub mod Bytes
+pub mod BytesLaws
 pub mod Fill
 pub mod FillLaws
 pub mod Refusal
 pub mod Number
 pub mod NumberLaws
 pub mod Signature
+pub mod SignatureLaws
 pub mod Format
 pub mod Sector
 pub mod SectorLaws
@@ -15,4 +19,5 @@ pub mod RunLaws
 pub mod Field
 pub mod Header
 pub mod Audit
+pub mod AuditLaws
 pub mod Fnv

@@ -1,12 +1,13 @@
 -- Reading a run of sectors into lent memory, and comparing one with it. Assumes nothing.
 use Prim.Native.Nat.{ℕ, _+_, _*_}
-use mathlib.Core.Bool.{Bool, true, false, cond, not, _&&_}
-use mathlib.Core.List.{List, [], _∷_}
+use mathlib.Core.Bool.{cond, _&&_}
+use mathlib.Core.List.{List}
 use lib.Dec.{leb, eqb}
 use lib.ListN.{length, take}
 use Rattle.sectors.specs.Refusal.{foreignFormat, shortBuffer, noSuchEntry}
 use Rattle.sectors.specs.Format.{foreign, sectorSize}
 use Rattle.sectors.specs.Sector.{readable, runData}
+use Rattle.sectors.specs.Bytes.{same}
 use Rattle.sectors.specs.Fill.{fill}
 use Rattle.sectors.specs.declared.run.Comparison.{Comparison}
 
@@ -23,14 +24,8 @@ unfoldable pub readInto : ℕ → List ℕ → ℕ → ℕ → ℕ → List ℕ 
 readInto format image lsn count at old =
     cond (eqb (readRefusal format (length image) lsn count at (length old)) 0) (fill at (runData format image lsn count) old) old
 
--- whether two lists of bytes are the same
-unfoldable pub same : List ℕ → List ℕ → Bool
-same [] [] = true
-same [] (y ∷ ys) = false
-same (x ∷ xs) [] = false
-same (x ∷ xs) (y ∷ ys) = eqb x y && same xs ys
-
--- How a run compares with as many lent bytes: 1 where they are the same, else 0; 0 with a refusal.
+-- "Copies at 520 and 530: any readable one unequal gives 17": how a run compares with as many lent bytes, from the first on: 1 where
+-- they are the same, else 0; 0 with a refusal.
 unfoldable pub comparisonOf : ℕ → List ℕ → ℕ → ℕ → List ℕ → Comparison
 comparisonOf format image lsn count bytes =
     record {

@@ -3,7 +3,8 @@ use Prim.Native.Nat.{ℕ, zero, suc, _+_, _*_, _/_}
 use mathlib.Core.Bool.{Bool, cond}
 use mathlib.Core.List.{List, [], _++_}
 use lib.Dec.{leb}
-use lib.ListN.{length, take, drop}
+use lib.ListN.{length}
+use Rattle.sectors.specs.Fill.{part}
 use Rattle.sectors.specs.Format.{storedSize, dataOffset, sectorSize}
 
 -- "Whole sectors are length divided by stored size, rounded down." (The library divides by 0 to 0: a foreign format has no
@@ -15,10 +16,10 @@ sectorCount format bytes = bytes / storedSize format
 unfoldable pub readable : ℕ → ℕ → ℕ → ℕ → Bool
 readable format bytes lsn count = leb (lsn + count) (sectorCount format bytes)
 
--- The data bytes of the sector at an address; none if it is not in the image.
+-- "data begins at byte 0, 6, 12", "a sector's 2,048 data bytes": those of the sector at an address; none if it is not in the image.
 unfoldable pub sectorData : ℕ → List ℕ → ℕ → List ℕ
 sectorData format image lsn =
-    cond (readable format (length image) lsn 1) (take sectorSize (drop (lsn * storedSize format + dataOffset format) image)) []
+    cond (readable format (length image) lsn 1) (part (lsn * storedSize format + dataOffset format) sectorSize image) []
 
 -- "A copy's bytes are its sectors' data bytes": those of `count` sectors from an address on, one after another.
 unfoldable pub runData : ℕ → List ℕ → ℕ → ℕ → List ℕ

@@ -5,32 +5,30 @@ use native.Mathlib.Omega.{arith}
 use mathlib.Core.Path.{_≡_, refl, sym, _∙_, ap}
 use mathlib.Core.Bool.{Bool, true, false}
 use mathlib.Core.List.{List, [], _++_, append-nil, append-assoc}
-use lib.ListN.{length, take, drop, getD, length-append, length-drop, List·getD-eq-default}
-use lib.Seq.{ext-getD, getD-take, getD-drop, length-take-le, take-at, drop-at}
+use lib.ListN.{length, getD, length-append, List·getD-eq-default}
+use lib.Seq.{ext-getD, take-at, drop-at}
 use borrow.Author.Tests.{leb-true, leb-false, le-leb, lt-leb}
 use Rattle.sectors.specs.Fill.{part}
-use Rattle.sectors.specs.Format.{foreign, storedSizes, storedSize, dataOffset, sectorSize}
+use Rattle.sectors.specs.FillLaws.{part-length, part-at}
+use Rattle.sectors.specs.declared.sector.Layout.{Layout}
+use Rattle.sectors.specs.Format.{foreign, layouts, layoutOf, storedSize, dataOffset, sectorSize}
 use Rattle.sectors.specs.Sector.{sectorCount, readable, sectorData, runData}
 
 -- ---- formats
 
--- past the three formats a table has nothing
-pub foreign-past : (table : List ℕ) → length table ≡ 3 → (format : ℕ) → foreign format ≡ true → getD table format 0 ≡ 0
-unfolding foreign
-foreign-past table three format h = List·getD-eq-default table 0 (omega (arith, leb-true 3 format h))
-
 -- a foreign format has no stored size
 pub foreign-size : (format : ℕ) → foreign format ≡ true → storedSize format ≡ 0
-unfolding storedSize
-foreign-size format h = foreign-past storedSizes refl format h
+unfolding storedSize layoutOf foreign
+foreign-size format h =
+    ap (λ (l : Layout). l .stored) (List·getD-eq-default layouts (record { stored = 0; offset = 0 }) (leb-true 3 format h))
 
 -- in any other the data lie in the stored sector
-pub known-size : (format : ℕ) → foreign format ≡ false → dataOffset format + sectorSize ≤ storedSize format
-unfolding storedSize dataOffset foreign
-known-size zero h = omega arith
-known-size (suc zero) h = omega arith
-known-size (suc (suc zero)) h = omega arith
-known-size (suc (suc (suc n))) h = omega (arith, leb-false 3 (suc (suc (suc n))) h)
+pub data-inside : (format : ℕ) → foreign format ≡ false → dataOffset format + sectorSize ≤ storedSize format
+unfolding storedSize dataOffset layoutOf foreign
+data-inside zero h = omega arith
+data-inside (suc zero) h = omega arith
+data-inside (suc (suc zero)) h = omega arith
+data-inside (suc (suc (suc n))) h = omega (arith, leb-false 3 (suc (suc (suc n))) h)
 
 -- ---- which sectors are readable
 
@@ -81,7 +79,7 @@ count-mono format m n h = go (foreign format) refl
   where
     go : (b : Bool) → foreign format ≡ b → m / storedSize format ≤ n / storedSize format
     go false e =
-        let k = known-size format e in
+        let k = data-inside format e in
         let positive : 0 < storedSize format = omega arith in
         let low = div-mul-le-self m (storedSize format) in
         le-div-iff-mul-le positive .1 (omega arith)
@@ -90,16 +88,21 @@ count-mono format m n h = go (foreign format) refl
 -- ---- data bytes
 
 module _ (format : ℕ) (image : List ℕ) where
-  -- a sector that is in the image: its stored bytes are
+  -- the stored bytes of a sector that is in the image are in it
+  pub stored-inside : (lsn : ℕ) → readable format (length image) lsn 1 ≡ true → lsn * storedSize format + storedSize format ≤ length image
+  stored-inside lsn h =
+      omega (arith, count-fits format (length image) (lsn + 1) (readable-true format (length image) lsn 1 h))
+
+  -- and its data lie in them
+  pub data-fits : (lsn : ℕ) → readable format (length image) lsn 1 ≡ true → dataOffset format + sectorSize ≤ storedSize format
+  data-fits lsn h =
+      let r = readable-true format (length image) lsn 1 h in data-inside format (count-known format (length image) (omega arith))
+
   pub sector-inside : (lsn : ℕ) → readable format (length image) lsn 1 ≡ true → lsn * storedSize format + dataOffset format + sectorSize ≤ length image
-  sector-inside lsn h =
-      let r = readable-true format (length image) lsn 1 h in
-      let k = known-size format (count-known format (length image) (omega arith)) in
-      let f = count-fits format (length image) (lsn + 1) r in
-      omega arith
+  sector-inside lsn h = omega (arith, stored-inside lsn h, data-fits lsn h)
 
   pub sector-is : (lsn : ℕ) → readable format (length image) lsn 1 ≡ true
-      → sectorData format image lsn ≡ take sectorSize (drop (lsn * storedSize format + dataOffset format) image)
+      → sectorData format image lsn ≡ part (lsn * storedSize format + dataOffset format) sectorSize image
   unfolding sectorData
   sector-is lsn h = rw h
 
@@ -110,16 +113,13 @@ module _ (format : ℕ) (image : List ℕ) where
 
   pub sector-length : (lsn : ℕ) → readable format (length image) lsn 1 ≡ true → length (sectorData format image lsn) ≡ sectorSize
   sector-length lsn h =
-      let i = sector-inside lsn h in
-      rw (sector-is lsn h) (length-take-le sectorSize (drop (lsn * storedSize format + dataOffset format) image) (rw length-drop (omega arith)))
+      ap length (sector-is lsn h) ∙ part-length (lsn * storedSize format + dataOffset format) sectorSize image (sector-inside lsn h)
 
   -- data byte i of a sector, as a byte of the image
   pub sector-byte : (lsn i : ℕ) → readable format (length image) lsn 1 ≡ true → i < sectorSize
       → getD (sectorData format image lsn) i 0 ≡ getD image (lsn * storedSize format + dataOffset format + i) 0
   sector-byte lsn i h q =
-      rw (sector-is lsn h)
-      (getD-take sectorSize (drop (lsn * storedSize format + dataOffset format) image) i 0 q
-      ∙ getD-drop (lsn * storedSize format + dataOffset format) image i 0)
+      ap (λ (s : List ℕ). getD s i 0) (sector-is lsn h) ∙ part-at (lsn * storedSize format + dataOffset format) sectorSize image i 0 q
 
   -- each sector of a readable run is in the image
   pub sector-of-run : (lsn count k : ℕ) → readable format (length image) lsn count ≡ true → k < count
@@ -166,11 +166,8 @@ module _ (format : ℕ) (image : List ℕ) where
   pub run-byte : (lsn count k i : ℕ) → readable format (length image) lsn count ≡ true → k < count → i < sectorSize
       → getD (runData format image lsn count) (k * sectorSize + i) 0
       ≡ getD image ((lsn + k) * storedSize format + dataOffset format + i) 0
-  unfolding part
   run-byte lsn count k i h l q =
-      let run = runData format image lsn count in
-      sym (getD-drop (k * sectorSize) run i 0)
-      ∙ sym (getD-take sectorSize (drop (k * sectorSize) run) i 0 q)
+      sym (part-at (k * sectorSize) sectorSize (runData format image lsn count) i 0 q)
       ∙ ap (λ (s : List ℕ). getD s i 0) (run-part lsn count k h l)
       ∙ sector-byte (lsn + k) i (sector-of-run lsn count k h l) q
 

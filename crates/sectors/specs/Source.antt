@@ -1,10 +1,12 @@
 -- What sector addresses hold. Everything of a disc is defined over a source; a lent image is one. Assumes nothing.
+use mathlib.Core.Path.{_≡_}
 use Prim.Native.Nat.{ℕ, zero, suc, _+_}
 use mathlib.Core.List.{List, [], _++_}
 use mathlib.Core.Option.{Option, none, some}
 use lib.Dec.{leb}
 use lib.ListN.{length}
 use Rattle.sectors.specs.Options.{onlyIf}
+use Rattle.sectors.specs.Format.{sectorSize}
 use Rattle.sectors.specs.Sector.{sectorCount, readable, sectorData}
 
 -- so many sectors, and at each address the sector's data bytes, or nothing where it cannot be read
@@ -12,7 +14,11 @@ pub record Source : Type 0 where
   pub count : ℕ
   pub at : ℕ → Option (List ℕ)
 
--- the source of a lent image
+-- "a sector's 2,048 data bytes": every sector that is there has them all
+pub record Sized (source : Source) : Type 0 where
+  pub sized : (n : ℕ) (d : List ℕ) → source .at n ≡ some d → length d ≡ sectorSize
+
+-- "Disc reading borrows the image": the source of a lent image
 unfoldable pub imageSource : ℕ → List ℕ → Source
 imageSource format image =
     record {

@@ -1,6 +1,7 @@
 -- Laws of sources: of any, and of an image's. A run is there exactly when it is readable, what its bytes are, and what another
 -- source keeps of it. Assumes nothing.
 use Prim.Native.Nat.{ℕ, zero, suc, _+_, _*_, _≤_, _<_}
+use native.Mathlib.Decide.{ℕ-discrete}
 use native.Mathlib.Omega.{arith}
 use mathlib.Core.Path.{_≡_, refl, sym, _∙_, ap}
 use mathlib.Core.Bool.{Bool, true, false}
@@ -9,11 +10,12 @@ use mathlib.Core.Option.{Option, none, some}
 use lib.Dec.{leb}
 use lib.ListN.{length, getD, length-append}
 use borrow.Author.Tests.{leb-true, le-leb}
-use Rattle.sectors.specs.Options.{onlyIf, Known, some-eq, no-some}
+use Rattle.sectors.specs.Options.{onlyIf, Known}
+use Rattle.sectors.specs.OptionLaws.{some-eq, no-some}
 use Rattle.sectors.specs.Format.{storedSize, dataOffset, sectorSize}
 use Rattle.sectors.specs.Sector.{sectorCount, readable, sectorData, runData}
-use Rattle.sectors.specs.SectorLaws.{readable-true, is-readable, sector-of-run, run-shorter, sector-length, sector-ext, count-mono}
-use Rattle.sectors.specs.Source.{Source, imageSource, joined, sectorsOf, runOf}
+use Rattle.sectors.specs.SectorLaws.{readable-true, is-readable, sector-of-run, run-shorter, sector-length, sector-inside, sector-ext, count-mono}
+use Rattle.sectors.specs.Source.{Source, Sized, imageSource, joined, sectorsOf, runOf}
 
 -- ---- any source
 
@@ -55,23 +57,48 @@ pub run-kept : (s t : Source) (lsn n : ℕ) → lsn + n ≤ t .count
     → (b : List ℕ) → runOf s lsn n ≡ some b → runOf t lsn n ≡ some b
 run-kept s t lsn n fits h b e = run-from t lsn n fits ∙ sectors-kept s t lsn n h b (run-parts s lsn n b e .1)
 
--- each sector of one that is there is in the other: so is the run
-sectors-known : (s t : Source) (lsn n : ℕ)
-    → ((k : ℕ) (d : List ℕ) → lsn ≤ k → k < lsn + n → s .at k ≡ some d → Known (t .at k))
-    → (b : List ℕ) → sectorsOf s lsn n ≡ some b → Known (sectorsOf t lsn n)
-unfolding sectorsOf joined
-sectors-known s t lsn zero h b e = ([], refl)
-sectors-known s t lsn (suc n) h b e =
+sectors-each : (s : Source) (lsn n : ℕ) (b : List ℕ) → sectorsOf s lsn n ≡ some b → (k : ℕ) → k < n → Known (s .at (lsn + k))
+unfolding sectorsOf
+sectors-each s lsn zero b e k h = absurd (omega arith)
+sectors-each s lsn (suc n) b e k h =
     let p = joined-parts (sectorsOf s lsn n) (s .at (lsn + n)) b e in
-    let front = sectors-known s t lsn n (λ k d l u q. h k d (omega arith) (omega arith) q) (p .0) (p .2) in
-    let last = h (lsn + n) (p .1) (omega arith) (omega arith) (p .3) in
+    go (ℕ-discrete k n) (p .1, p .3) (λ l. sectors-each s lsn n (p .0) (p .2) k l)
+  where
+    go : Dec (k ≡ n) → Known (s .at (lsn + n)) → (k < n → Known (s .at (lsn + k))) → Known (s .at (lsn + k))
+    go (yes q) last before = rw q last
+    go (no q) last before = before (omega arith)
+
+-- a run that is there has each of its sectors
+pub run-each : (s : Source) (lsn n : ℕ) (b : List ℕ) → runOf s lsn n ≡ some b → (k : ℕ) → k < n → Known (s .at (lsn + k))
+run-each s lsn n b e = sectors-each s lsn n b (run-parts s lsn n b e .1)
+
+-- a sector that is lost loses the run
+pub run-lost : (s : Source) (lsn n k : ℕ) → k < n → s .at (lsn + k) ≡ none → runOf s lsn n ≡ none
+run-lost s lsn n k h e = go (runOf s lsn n) refl
+  where
+    go : (x : Option (List ℕ)) → runOf s lsn n ≡ x → x ≡ none
+    go none q = refl
+    go (some b) q = absurd (no-some e (run-each s lsn n b q k h .1))
+
+sectors-there : (s : Source) (lsn n : ℕ) → ((k : ℕ) → k < n → Known (s .at (lsn + k))) → Known (sectorsOf s lsn n)
+unfolding sectorsOf joined
+sectors-there s lsn zero h = ([], refl)
+sectors-there s lsn (suc n) h =
+    let front = sectors-there s lsn n (λ k l. h k (omega arith)) in
+    let last = h n (omega arith) in
     (front .0 ++ last .0, rw (front .1, last .1))
 
+-- a run whose sectors are all there is there
+pub run-there : (s : Source) (lsn n : ℕ) → lsn + n ≤ s .count → ((k : ℕ) → k < n → Known (s .at (lsn + k))) → Known (runOf s lsn n)
+run-there s lsn n fits h = let k = sectors-there s lsn n h in (k .0, run-from s lsn n fits ∙ k .1)
+
+-- each sector of one that is there is in the other: so is the run
 pub run-known : (s t : Source) (lsn n : ℕ) → lsn + n ≤ t .count
     → ((k : ℕ) (d : List ℕ) → lsn ≤ k → k < lsn + n → s .at k ≡ some d → Known (t .at k))
     → (b : List ℕ) → runOf s lsn n ≡ some b → Known (runOf t lsn n)
 run-known s t lsn n fits h b e =
-    let k = sectors-known s t lsn n h b (run-parts s lsn n b e .1) in (k .0, run-from t lsn n fits ∙ k .1)
+    run-there t lsn n fits
+    (λ k l. let known = run-each s lsn n b e k l in h (lsn + k) (known .0) (omega arith) (omega arith) (known .1))
 
 -- two sources of one count that hold the same in each sector of a run have the same run
 sectors-same : (s t : Source) (lsn n : ℕ) → ((k : ℕ) → lsn ≤ k → k < lsn + n → s .at k ≡ t .at k) → sectorsOf s lsn n ≡ sectorsOf t lsn n
@@ -86,10 +113,6 @@ unfolding runOf
 run-same s t lsn n c h =
     ap (λ (m : ℕ). onlyIf (leb (lsn + n) m) (sectorsOf s lsn n)) c
     ∙ ap (onlyIf (leb (lsn + n) (t .count))) (sectors-same s t lsn n h)
-
--- every sector that is there has its 2,048 bytes
-pub record Sized (source : Source) : Type 0 where
-  pub sized : (n : ℕ) (d : List ℕ) → source .at n ≡ some d → length d ≡ sectorSize
 
 sectors-length : (s : Source) → Sized s → (lsn n : ℕ) (b : List ℕ) → sectorsOf s lsn n ≡ some b → length b ≡ n * sectorSize
 unfolding sectorsOf
@@ -151,7 +174,7 @@ module _ (format : ℕ) (image : List ℕ) where
 
 -- What a shorter image's source keeps: a run that it has, with the same data bytes in the longer image, is there too.
 pub cut-kept : (format : ℕ) (a b : List ℕ) (lsn n : ℕ) → length a ≤ length b
-    → ((k i : ℕ) → lsn ≤ k → k < lsn + n → i < sectorSize
+    → ((k i : ℕ) → lsn ≤ k → k < lsn + n → i < sectorSize → k * storedSize format + dataOffset format + i < length a
     → getD a (k * storedSize format + dataOffset format + i) 0 ≡ getD b (k * storedSize format + dataOffset format + i) 0)
     → (d : List ℕ) → runOf (imageSource format a) lsn n ≡ some d → runOf (imageSource format b) lsn n ≡ some d
 cut-kept format a b lsn n shorter each d e =
@@ -169,5 +192,7 @@ cut-kept format a b lsn n shorter each d e =
         let in-a = readable-true format (length a) k 1 (r .0) in
         let m = count-mono format (length a) (length b) shorter in
         let in-b = is-readable format (length b) k 1 (omega arith) in
+        let end = sector-inside format a k (r .0) in
+        let inside : (i : ℕ) → i < sectorSize → k * storedSize format + dataOffset format + i < length a = λ i small. omega arith in
         image-at format b k in-b
-        ∙ ap {B = Option (List ℕ)} some (sym (sector-ext format a b k (r .0) in-b (λ i q. each k i l u q)) ∙ r .1)
+        ∙ ap {B = Option (List ℕ)} some (sym (sector-ext format a b k (r .0) in-b (λ i small. each k i l u small (inside i small))) ∙ r .1)

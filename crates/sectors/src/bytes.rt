@@ -1,7 +1,7 @@
 // Bytes copied and compared, one by one; the compiler makes vector moves of these loops.
 ghost use mathlib.Core.Path.{_≡_};
 ghost use lib.ListN.{length};
-ghost use Rattle.sectors.specs.Run.{same};
+ghost use Rattle.sectors.specs.Bytes.{same};
 
 // Fills a buffer with bytes of the same number.
 pub(crate) fn copy_bytes(from: &[u8], to: &mut [u8])

@@ -11,7 +11,7 @@ use crate::refusal::NO_SUCH_ENTRY;
 use crate::sector::Lsn;
 use crate::sector::contains;
 use crate::sector::is_foreign;
-use crate::sector::stored_size;
+use crate::sector::stored_part;
 
 // Bytes of a header: four of ID, two of IED.
 pub const HEADER_SIZE: usize = 6;
@@ -36,7 +36,7 @@ pub struct AuditAnswer {
 }
 
 // The value at 1 of the polynomial whose coefficients are bytes, the first the highest.
-pub(crate) fn at_one(h: &[u8]) -> u8
+fn at_one(h: &[u8]) -> u8
     ensures { λ r. ⌜ r ≡ atOne (now (h .entry)) ⌝ }
 {
     let mut v = 0;
@@ -49,7 +49,7 @@ pub(crate) fn at_one(h: &[u8]) -> u8
 }
 
 // Its value at α.
-pub(crate) fn at_alpha(h: &[u8]) -> u8
+fn at_alpha(h: &[u8]) -> u8
     ensures { λ r. ⌜ r ≡ atAlpha (now (h .entry)) ⌝ }
 {
     let mut v = 0;
@@ -62,7 +62,7 @@ pub(crate) fn at_alpha(h: &[u8]) -> u8
 }
 
 // Whether six bytes are sound: they are zero at 1 and at α.
-pub(crate) fn is_sound(h: &[u8]) -> bool
+fn is_sound(h: &[u8]) -> bool
     requires { ⌜ length (now h) ≡ 6 ⌝ }
     ensures test { λ r. ⌜ r ≡ isSound (now (h .entry)) ⌝ }
     ensures decides { λ r. ⌜ (r ≡ true → Sound (now (h .entry))) × (Sound (now (h .entry)) → r ≡ true) ⌝ }
@@ -84,8 +84,8 @@ pub fn audit(format: u32, image: &[u8], lsn: Lsn) -> AuditResult
     if !contains(format, image.len(), lsn, 1) {
         return AuditResult::NoSuchEntry;
     }
-    let start = (lsn.0 as usize) * stored_size(format);
-    if is_sound(&image[start..start + HEADER_SIZE]) {
+    let header = stored_part(format, image, lsn.0 as usize, 0, HEADER_SIZE);
+    if is_sound(header) {
         return AuditResult::Sound;
     }
     AuditResult::Unsound

@@ -4,10 +4,11 @@ ghost use mathlib.Core.Bool.{true};
 ghost use Prim.Native.Nat.{_+_, _*_, _≤_};
 ghost use lib.Dec.{leb};
 ghost use lib.ListN.{length, take};
+ghost use Rattle.sectors.specs.Bytes.{same};
 ghost use Rattle.sectors.specs.Fill.{fill};
 ghost use Rattle.sectors.specs.Format.{sectorSize};
 ghost use Rattle.sectors.specs.Sector.{readable, runData};
-ghost use Rattle.sectors.specs.Run.{same, readRefusal, readInto, comparisonOf};
+ghost use Rattle.sectors.specs.Run.{readRefusal, readInto, comparisonOf};
 use crate::bytes::copy_bytes;
 use crate::bytes::same_bytes;
 use crate::refusal::FOREIGN_FORMAT;
@@ -27,7 +28,7 @@ pub struct Comparison {
 }
 
 // Whether so many sectors fit from a place on into so many bytes.
-pub(crate) fn has_room(count: usize, at: usize, size: usize) -> bool
+fn has_room(count: usize, at: usize, size: usize) -> bool
     ensures { λ r. ⌜ r ≡ leb (at + count * sectorSize) size ⌝ }
 {
     if size < at {
@@ -37,14 +38,7 @@ pub(crate) fn has_room(count: usize, at: usize, size: usize) -> bool
 }
 
 // The refusal of a run that is to be read into, or compared with, so many lent bytes from a place on.
-pub(crate) fn read_refusal(
-    format: u32,
-    bytes: usize,
-    lsn: Lsn,
-    count: usize,
-    at: usize,
-    size: usize,
-) -> u8
+fn read_refusal(format: u32, bytes: usize, lsn: Lsn, count: usize, at: usize, size: usize) -> u8
     ensures { λ r. ⌜ r ≡ readRefusal format bytes (lsn .0) count at size ⌝ }
 {
     if is_foreign(format) {
@@ -99,14 +93,7 @@ pub fn compare_sectors(
 }
 
 // Copies a readable run into a buffer that has the room.
-pub(crate) fn copy_run(
-    format: u32,
-    image: &[u8],
-    first: usize,
-    count: usize,
-    buf: &mut [u8],
-    at: usize,
-)
+fn copy_run(format: u32, image: &[u8], first: usize, count: usize, buf: &mut [u8], at: usize)
     requires { ⌜ (readable format (length (now image)) first count ≡ true) × (at + count * sectorSize ≤ length (now buf)) ⌝ }
     ensures { λ r. ⌜ now (buf .exit) ≡ fill at (runData format (now (image .entry)) first count) (now (buf .entry)) ⌝ }
 {
@@ -121,7 +108,7 @@ pub(crate) fn copy_run(
 }
 
 // Whether a readable run has the bytes that are lent, from the first on.
-pub(crate) fn same_run(format: u32, image: &[u8], first: usize, count: usize, bytes: &[u8]) -> bool
+fn same_run(format: u32, image: &[u8], first: usize, count: usize, bytes: &[u8]) -> bool
     requires { ⌜ (readable format (length (now image)) first count ≡ true) × (count * sectorSize ≤ length (now bytes)) ⌝ }
     ensures { λ r. ⌜ r ≡ same (runData format (now (image .entry)) first count) (take (count * sectorSize) (now (bytes .entry))) ⌝ }
 {

@@ -1,21 +1,24 @@
 // Stored sectors of an image: how many there are, which are readable, and their data bytes.
 ghost use mathlib.Core.Path.{_≡_};
 ghost use mathlib.Core.Bool.{true};
+ghost use Prim.Native.Nat.{_+_, _*_, _≤_};
 ghost use lib.ListN.{length};
-ghost use Rattle.sectors.specs.Format.{foreign, storedSize, dataOffset};
+ghost use Rattle.sectors.specs.Fill.{part};
+ghost use Rattle.sectors.specs.Format.{foreign, layoutOf, storedSize};
 ghost use Rattle.sectors.specs.Sector.{sectorCount, readable, sectorData};
 
 // Bytes of data in a sector.
 pub const SECTOR_SIZE: usize = 2048;
 
-// By format: bytes of a stored sector, and where its data begin.
-const STORED_SIZES: [usize; 3] = [2048, 2054, 2064];
-
-const DATA_OFFSETS: [usize; 3] = [0, 6, 12];
-
 // A sector address.
 #[repr(C)]
 pub struct Lsn(pub u32);
+
+// How a sector is stored: in so many bytes, with its data from an offset on.
+pub(crate) struct Layout {
+    pub stored: usize,
+    pub offset: usize,
+}
 
 // Whether a format is none of `Plain`, `Raw2054`, `Raw2064`.
 pub fn is_foreign(format: u32) -> bool
@@ -24,27 +27,27 @@ pub fn is_foreign(format: u32) -> bool
     3 <= format
 }
 
-// Bytes of a stored sector; 0 in a foreign format.
-pub(crate) fn stored_size(format: u32) -> usize
-    ensures { λ r. ⌜ r ≡ storedSize format ⌝ }
+// How sectors are stored in a format; zeros for a foreign one.
+fn layout_of(format: u32) -> Layout
+    ensures { λ r. ⌜ r ≡ layoutOf format ⌝ }
 {
     match format {
-        0 => 2048,
-        1 => 2054,
-        2 => 2064,
-        _ => 0,
-    }
-}
-
-// Where the data begin in a stored sector; 0 in a foreign format.
-pub(crate) fn data_offset(format: u32) -> usize
-    ensures { λ r. ⌜ r ≡ dataOffset format ⌝ }
-{
-    match format {
-        0 => 0,
-        1 => 6,
-        2 => 12,
-        _ => 0,
+        0 => Layout {
+            stored: 2048,
+            offset: 0,
+        },
+        1 => Layout {
+            stored: 2054,
+            offset: 6,
+        },
+        2 => Layout {
+            stored: 2064,
+            offset: 12,
+        },
+        _ => Layout {
+            stored: 0,
+            offset: 0,
+        },
     }
 }
 
@@ -52,7 +55,8 @@ pub(crate) fn data_offset(format: u32) -> usize
 pub fn sector_count(format: u32, bytes: usize) -> usize
     ensures { λ r. ⌜ r ≡ sectorCount format bytes ⌝ }
 {
-    let stored = stored_size(format);
+    let layout = layout_of(format);
+    let stored = layout.stored;
     if stored == 0 {
         return 0;
     }
@@ -71,14 +75,30 @@ pub fn contains(format: u32, bytes: usize, lsn: Lsn, count: usize) -> bool
     count <= sectors - first
 }
 
+// A part of a stored sector that is in the image.
+pub(crate) fn stored_part<'a>(
+    format: u32,
+    image: &'a [u8],
+    n: usize,
+    offset: usize,
+    size: usize,
+) -> &'a [u8]
+    requires { ⌜ (readable format (length (now image)) n 1 ≡ true) × (offset + size ≤ storedSize format) ⌝ }
+    ensures { λ r. ⌜ now r ≡ part (n * storedSize format + offset) size (now (image .entry)) ⌝ }
+{
+    let layout = layout_of(format);
+    let start = n * layout.stored + offset;
+    let end = start + size;
+    &image[start..end]
+}
+
 // The data bytes of a sector that is in the image, as a part of it.
 pub(crate) fn stored_data<'a>(format: u32, image: &'a [u8], n: usize) -> &'a [u8]
     requires { ⌜ readable format (length (now image)) n 1 ≡ true ⌝ }
     ensures { λ r. ⌜ now r ≡ sectorData format (now (image .entry)) n ⌝ }
 {
-    let start = n * stored_size(format) + data_offset(format);
-    let end = start + SECTOR_SIZE;
-    &image[start..end]
+    let layout = layout_of(format);
+    stored_part(format, image, n, layout.offset, SECTOR_SIZE)
 }
 
 // The data bytes of a sector, as a part of the image; empty if it is not in the image.

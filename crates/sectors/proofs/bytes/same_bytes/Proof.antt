@@ -7,8 +7,8 @@ use denote.Ref.{now}
 use lib.Dec.{eqb}
 use lib.ListN.{length, getD, take}
 use lib.Seq.{take-all}
-use Rattle.sectors.specs.Run.{same}
-use Rattle.sectors.specs.RunLaws.{same-more}
+use Rattle.sectors.specs.Bytes.{same}
+use Rattle.sectors.specs.BytesLaws.{same-more}
 use borrow.Author.Needs.{needs}
 use Rattle.sectors.proofs.bytes.same_bytes.Statement.{statement}
 use Rattle.sectors.proofs.bytes.same_bytes.Tie as tie

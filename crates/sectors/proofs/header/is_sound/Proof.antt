@@ -4,7 +4,7 @@ use mathlib.Core.Bool.{_&&_}
 use native.Mathlib.Omega.{arith}
 use lib.Dec.{eqb}
 use borrow.Author.Needs.{needs}
-use Rattle.sectors.specs.Header.{isSound}
+use Rattle.sectors.specs.Header.{isMultiple, isSound}
 use Rattle.sectors.proofs.Division.{decides}
 use Rattle.sectors.proofs.header.is_sound.Statement.{statement}
 use Rattle.sectors.proofs.header.is_sound.Tie as tie
@@ -16,7 +16,7 @@ at-alpha-requires : tie.Need-at-alpha-requires
 at-alpha-requires c κs = search needs
 
 returns : tie.Need-returns
-unfolding isSound
+unfolding isSound isMultiple
 returns c =
     let h = c .before .before .before .args .h .now in
     let e : eqb (c .before .at-one .result) 0 && eqb (c .at-alpha .result) 0 ≡ isSound h =

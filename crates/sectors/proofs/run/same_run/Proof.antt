@@ -6,7 +6,7 @@ use native.Mathlib.Omega.{arith}
 use denote.Ref.{now}
 use lib.ListN.{take}
 use borrow.Author.Tests.{not-true, not-false}
-use Rattle.sectors.specs.Run.{same}
+use Rattle.sectors.specs.Bytes.{same}
 use Rattle.sectors.specs.Sector.{runData}
 use Rattle.sectors.proofs.Turns.{address-bound, next-there, next-length, bytes-part, same-turn, same-stop}
 use borrow.Author.Needs.{needs}

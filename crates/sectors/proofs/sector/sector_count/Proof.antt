@@ -2,26 +2,27 @@
 use mathlib.Core.Path.{sym, ap, _∙_}
 use Prim.Native.Nat.{ℕ, _/_}
 use native.Mathlib.Nat.{div-zero}
-use Rattle.sectors.specs.Sector.{sectorCount}
 use borrow.Author.Needs.{needs}
+use Rattle.sectors.specs.Sector.{sectorCount}
+use Rattle.sectors.proofs.Places.{stored-is}
 use Rattle.sectors.proofs.sector.sector_count.Statement.{statement}
 use Rattle.sectors.proofs.sector.sector_count.Tie as tie
 
-stored-size-requires : tie.Need-stored-size-requires
-stored-size-requires c κs = search needs
+layout-of-requires : tie.Need-layout-of-requires
+layout-of-requires c κs = search needs
 
 returns : tie.Need-returns
 unfolding sectorCount
 returns c =
     let a = c .before .before .args in
-    sym (ap (λ (n : ℕ). a .bytes / n) (sym (c .before .stored-size .ensures) ∙ c .if1 .taken) ∙ div-zero (a .bytes))
+    sym (ap (λ (n : ℕ). a .bytes / n) (sym (stored-is (a .format) _ (c .before .layout-of .ensures)) ∙ c .if1 .taken) ∙ div-zero (a .bytes))
 
 div-result : tie.Need-div-result
 div-result c = search needs
 
 returns-2 : tie.Need-returns-2
 unfolding sectorCount
-returns-2 c = ap (λ (n : ℕ). c .before .before .args .bytes / n) (c .before .stored-size .ensures)
+returns-2 c = let a = c .before .before .args in ap (λ (n : ℕ). a .bytes / n) (stored-is (a .format) _ (c .before .layout-of .ensures))
 
 pub sector-count-spec : {M : Type 1} → statement M
-sector-count-spec = tie.close (tie.spec stored-size-requires returns div-result returns-2)
+sector-count-spec = tie.close (tie.spec layout-of-requires returns div-result returns-2)

@@ -1,60 +1,30 @@
--- `sectors::sector::stored_data` meets its contract: the sector's data lie in the image, at its place. Assumes nothing.
-use mathlib.Core.Path.{refl}
+-- `sectors::sector::stored_data` meets its contract: the data are a part of the stored sector. Assumes nothing.
+use mathlib.Core.Path.{sym, ap, _∙_}
+use Prim.Native.Nat.{ℕ, _+_, _*_}
 use native.Mathlib.Omega.{arith}
 use denote.Ref.{now}
-use Rattle.sectors.specs.Format.{dataOffset}
-use Rattle.sectors.proofs.Places.{place-inside, part-is}
+use Rattle.sectors.specs.Fill.{part}
+use Rattle.sectors.specs.Format.{storedSize}
+use Rattle.sectors.specs.SectorLaws.{data-fits, sector-is}
+use Rattle.sectors.proofs.Places.{offset-is}
 use borrow.Author.Needs.{needs}
 use Rattle.sectors.proofs.sector.stored_data.Statement.{statement}
 use Rattle.sectors.proofs.sector.stored_data.Tie as tie
 
-stored-size-requires : tie.Need-stored-size-requires
-stored-size-requires c κs = search needs
+layout-of-requires : tie.Need-layout-of-requires
+layout-of-requires c κs = search needs
 
-mul-start : tie.Need-mul-start
-mul-start c =
-    let start = c .before .before in let a = start .args in let s = c .stored-size in
-    omega (arith, place-inside (a .format) (s .result) (dataOffset (a .format)) (s .ensures) refl (now (a .image)) (a .n) (start .pre))
-
-data-offset-requires : tie.Need-data-offset-requires
-data-offset-requires c κs = search needs
-
-add-start : tie.Need-add-start
-add-start c =
-    let start = c .before .before .before in let a = start .args in let s = c .before .stored-size in let o = c .data-offset in
-    omega (arith, place-inside (a .format) (s .result) (o .result) (s .ensures) (o .ensures) (now (a .image)) (a .n) (start .pre))
-
-add-end : tie.Need-add-end
-add-end c =
-    let start = c .before .before .before in let a = start .args in let s = c .before .stored-size in let o = c .data-offset in
-    omega (arith, place-inside (a .format) (s .result) (o .result) (s .ensures) (o .ensures) (now (a .image)) (a .n) (start .pre))
-
-sub-result : tie.Need-sub-result
-sub-result c = search needs
-
-part-result-start : tie.Need-part-result-start
-part-result-start c = search needs
-
-part-result-end : tie.Need-part-result-end
-part-result-end c =
-    let start = c .before .before .before in let a = start .args in let s = c .before .stored-size in let o = c .data-offset in
-    omega (arith, place-inside (a .format) (s .result) (o .result) (s .ensures) (o .ensures) (now (a .image)) (a .n) (start .pre))
+stored-part-requires : tie.Need-stored-part-requires
+stored-part-requires c κs =
+    let start = c .before .before in let a = start .args in
+    (start .pre, omega (arith, offset-is (a .format) _ (c .layout-of .ensures), data-fits (a .format) (now (a .image)) (a .n) (start .pre)))
 
 returns : tie.Need-returns
 returns c =
-    let start = c .before .before .before .before in let a = start .args in let s = c .before .before .stored-size in let o = c .before .data-offset in
-    part-is (a .format) (s .result) (o .result) (s .ensures) (o .ensures) (now (a .image)) (a .n) (start .pre) _ refl
+    let start = c .before .before .before in let a = start .args in
+    c .stored-part .ensures
+    ∙ ap (λ (o : ℕ). part (a .n * storedSize (a .format) + o) 2048 (now (a .image))) (offset-is (a .format) _ (c .before .layout-of .ensures))
+    ∙ sym (sector-is (a .format) (now (a .image)) (a .n) (start .pre))
 
 pub stored-data-spec : {M : Type 1} → statement M
-stored-data-spec =
-    tie.close
-    (tie.spec
-    stored-size-requires
-    mul-start
-    data-offset-requires
-    add-start
-    add-end
-    sub-result
-    part-result-start
-    part-result-end
-    returns)
+stored-data-spec = tie.close (tie.spec layout-of-requires stored-part-requires returns)

@@ -1,0 +1,30 @@
+-- Laws of signatures: what a cut table has, and a part of a table. Assumes nothing.
+use Prim.Native.Nat.{ℕ, _+_, _≤_, _<_}
+use native.Mathlib.Omega.{arith}
+use mathlib.Core.Path.{_≡_, refl, ap}
+use mathlib.Core.Bool.{Bool, true, false}
+use mathlib.Core.List.{List}
+use lib.ListN.{length, length-take, length-drop}
+use Rattle.sectors.specs.Bytes.{same}
+use Rattle.sectors.specs.BytesLaws.{same-eq}
+use Rattle.sectors.specs.Fill.{part}
+use Rattle.sectors.specs.FillLaws.{part-part}
+use Rattle.sectors.specs.Signature.{signedAt}
+
+-- a signature that the table ends before is not there
+pub signed-cut : (table : List ℕ) (at : ℕ) (signature : List ℕ) → 0 < length signature → length table < at + length signature
+    → signedAt table at signature ≡ false
+unfolding signedAt part
+signed-cut table at signature some short = go (same (part at (length signature) table) signature) refl
+  where
+    go : (t : Bool) → same (part at (length signature) table) signature ≡ t → t ≡ false
+    go false q = refl
+    go true q =
+        let n = simp (length-take, length-drop) at (ap length (same-eq (part at (length signature) table) signature q)) in
+        absurd (omega arith)
+
+-- a signature in a part of a table
+pub signed-part : (p n : ℕ) (table : List ℕ) (at : ℕ) (signature : List ℕ) → at + length signature ≤ n → p + n ≤ length table
+    → signedAt (part p n table) at signature ≡ signedAt table (p + at) signature
+unfolding signedAt
+signed-part p n table at signature inside fits = ap (λ (s : List ℕ). same s signature) (part-part p n at (length signature) table inside fits)
