@@ -16,7 +16,7 @@ offsetBasis = 0xcbf2_9ce4_8422_2325
 abbrev pub prime : ℕ
 prime = 0x0000_0100_0000_01b3
 
--- One byte more, as published: "hash = hash XOR octet", then "hash = hash * FNV_prime", "each product keeping its low 64 bits".
+-- One byte more, as published: "hash = hash xor octet_of_data", then "hash = hash * FNV_prime", "each product keeping its low 64 bits".
 unfoldable pub fnvStep : ℕ → ℕ → ℕ
 fnvStep hash byte = bitXor hash byte * prime % 2 ^ 64
 

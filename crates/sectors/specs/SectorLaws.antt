@@ -52,7 +52,7 @@ not-readable format bytes lsn count h = lt-leb (lsn + count) (sectorCount format
 -- a foreign format has no whole sector
 pub foreign-count : (format bytes : ℕ) → foreign format ≡ true → sectorCount format bytes ≡ 0
 unfolding sectorCount
-foreign-count format bytes h = rw (foreign-size format h) (div-zero bytes)
+foreign-count format bytes h = rw (foreign-size format h) (div-zero _)
 
 -- a format that has a whole sector is not foreign
 pub count-known : (format bytes : ℕ) → 0 < sectorCount format bytes → foreign format ≡ false

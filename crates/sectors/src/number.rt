@@ -16,7 +16,9 @@ pub fn be16_at(table: &[u8], at: usize) -> u16
     if table.len() <= at {
         return 0;
     }
-    (byte_at(table, at) as u16) * 256 + (byte_at(table, at + 1) as u16)
+    let high = byte_at(table, at) as u16;
+    let low = byte_at(table, at + 1) as u16;
+    high * 256 + low
 }
 
 // The number in four bytes from a place on.
@@ -26,5 +28,7 @@ pub fn be32_at(table: &[u8], at: usize) -> u32
     if table.len() <= at {
         return 0;
     }
-    (be16_at(table, at) as u32) * 65536 + (be16_at(table, at + 2) as u32)
+    let high = be16_at(table, at) as u32;
+    let low = be16_at(table, at + 2) as u32;
+    high * 65536 + low
 }

@@ -13,11 +13,8 @@ returns c = let a = c .before .before .args in sym (be-past 2 (now (a .table)) (
 byte-at-requires : tie.Need-byte-at-requires
 byte-at-requires c κs = search needs
 
-cast-result : tie.Need-cast-result
-cast-result c = search needs
-
-mul-result : tie.Need-mul-result
-mul-result c = search needs
+cast-high : tie.Need-cast-high
+cast-high c = search needs
 
 add-byte-at : tie.Need-add-byte-at
 add-byte-at c = search needs
@@ -25,8 +22,11 @@ add-byte-at c = search needs
 byte-at-requires-2 : tie.Need-byte-at-requires-2
 byte-at-requires-2 c κs = search needs
 
-cast-result-2 : tie.Need-cast-result-2
-cast-result-2 c = search needs
+cast-low : tie.Need-cast-low
+cast-low c = search needs
+
+mul-result : tie.Need-mul-result
+mul-result c = search needs
 
 add-result : tie.Need-add-result
 add-result c = search needs
@@ -42,10 +42,10 @@ be16-at-spec =
     (tie.spec
     returns
     byte-at-requires
-    cast-result
-    mul-result
+    cast-high
     add-byte-at
     byte-at-requires-2
-    cast-result-2
+    cast-low
+    mul-result
     add-result
     returns-2)
