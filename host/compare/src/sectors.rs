@@ -48,11 +48,15 @@ pub struct Sectors {
 impl Sectors {
     pub fn new() -> Self {
         let formats = ["format 0", "format 1", "format 2"];
-        let read = ["refusal 1", "refusal 2", "refusal 8", "no sectors", "over 64 sectors", "part"];
-        let compare = ["refusal 1", "refusal 2", "refusal 8", "equal", "unequal", "longer lent"];
+        let runs = ["refusal 1", "refusal 2", "refusal 8", "no sectors", "over 64 sectors"];
+        let edges = ["to the end", "one sector too far", "room to the byte", "one byte short"];
+        let common = [&runs[..], &edges[..], &formats[..]].concat();
         Sectors {
-            read: Kind::new("read_sectors", &[&read[..], &formats[..]].concat()),
-            compare: Kind::new("compare_sectors", &[&compare[..], &formats[..]].concat()),
+            read: Kind::new("read_sectors", &[&common[..], &["part"]].concat()),
+            compare: Kind::new(
+                "compare_sectors",
+                &[&common[..], &["equal", "unequal", "longer lent"]].concat(),
+            ),
             fingerprint: Kind::new(
                 "fingerprint",
                 &[&["refusal 1", "refusal 8"], &formats[..]].concat(),
@@ -77,7 +81,8 @@ impl Sectors {
     }
 
     fn read_case(&mut self, rng: &mut Rng, image: &Image, rust: &mut Option<Lent>, run: Run) {
-        let Place { len, at } = any_place(rng, run);
+        let place = any_place(rng, run);
+        let Place { len, at } = place;
         let mut ours = vec![0; len];
         pattern(rng.below(256), &mut ours);
         let mut theirs = ours.clone();
@@ -88,10 +93,9 @@ impl Sectors {
         let rust = Written { refusal, buffer: Buffer(&theirs) };
         let kind = &mut self.read;
         kind.case(&question(image, run, len, at), refusal, library, rust);
-        count_format(kind, image.format, refusal);
-        kind.class_if("no sectors", refusal == 0 && count == 0);
-        kind.class_if("over 64 sectors", refusal == 0 && count > 64);
-        kind.class_if("part", refusal == 0 && at > 0 && at + count * 2048 < len);
+        count_run(kind, image, run, place, refusal);
+        let part = at > 0 && end_in(run, at) < Some(len);
+        kind.class_if("part", refusal == 0 && count > 0 && part);
     }
 
     fn compare_case(&mut self, rng: &mut Rng, image: &Image, rust: &mut Option<Lent>, run: Run) {
@@ -101,10 +105,11 @@ impl Sectors {
         let refusal = rust.refusal;
         let kind = &mut self.compare;
         kind.case(&question(image, run, lent.len(), 0), refusal, library, rust);
-        count_format(kind, image.format, refusal);
+        count_run(kind, image, run, Place { len: lent.len(), at: 0 }, refusal);
+        let longer = end_in(run, 0) < Some(lent.len());
         kind.class_if("equal", rust.equal == 1 && run.count > 0);
         kind.class_if("unequal", refusal == 0 && rust.equal == 0);
-        kind.class_if("longer lent", refusal == 0 && run.count * 2048 < lent.len());
+        kind.class_if("longer lent", refusal == 0 && run.count > 0 && longer);
     }
 
     fn fingerprint_case(&mut self, image: &Image, rust: &mut Option<Lent>, lsn: u32) {
@@ -113,7 +118,7 @@ impl Sectors {
         let refusal = rust.refusal;
         let kind = &mut self.fingerprint;
         kind.case(&question(image, Run { lsn, count: 1 }, 0, 0), refusal, library, rust);
-        count_format(kind, image.format, refusal);
+        count_format(kind, image.format, refusal == 0);
     }
 
     fn audit_case(&mut self, image: &Image, rust: &Option<Lent>, lsn: u32) {
@@ -132,17 +137,36 @@ fn question(image: &Image, run: Run, lent: usize, at: usize) -> Question {
     Question { format: image.format, length: image.bytes.len(), lsn, count, lent, at }
 }
 
-fn count_format(kind: &mut Kind, format: u32, refusal: u8) {
+fn count_format(kind: &mut Kind, format: u32, accepted: bool) {
     for (number, class) in ["format 0", "format 1", "format 2"].iter().enumerate() {
-        kind.class_if(class, refusal == 0 && format as usize == number);
+        kind.class_if(class, accepted && format as usize == number);
     }
+}
+
+/// The classes of a run, read into a place or compared with it. Only "no sectors" has runs of none.
+fn count_run(kind: &mut Kind, image: &Image, run: Run, place: Place, refusal: u8) {
+    let Run { lsn, count } = run;
+    let some = |wanted| refusal == wanted && count > 0;
+    kind.class_if("no sectors", refusal == 0 && count == 0);
+    kind.class_if("over 64 sectors", refusal == 0 && count > 64);
+    let end = count.checked_add(lsn as usize);
+    kind.class_if("to the end", some(0) && end == Some(image.sectors()));
+    kind.class_if("one sector too far", some(8) && end == Some(image.sectors() + 1));
+    let end = end_in(run, place.at);
+    kind.class_if("room to the byte", some(0) && end == Some(place.len));
+    kind.class_if("one byte short", some(2) && end == Some(place.len + 1));
+    count_format(kind, image.format, some(0));
+}
+
+/// Where the data of a run ends that begins at a place; nothing if no machine word holds it.
+fn end_in(run: Run, at: usize) -> Option<usize> {
+    run.data_bytes().and_then(|need| at.checked_add(need))
 }
 
 /// Refusals 1 and 2 by the document, the rest by the Rust.
 fn expected_read(rust: &mut Option<Lent>, run: Run, buf: &mut [u8], at: usize) -> u8 {
     let Some(image) = rust else { return 1 };
-    let end = run.data_bytes().and_then(|need| at.checked_add(need));
-    match end.and_then(|end| buf.get_mut(at..end)) {
+    match end_in(run, at).and_then(|end| buf.get_mut(at..end)) {
         Some(part) => rust::read(image, run, part),
         None => 2,
     }
@@ -191,10 +215,10 @@ fn lent_bytes(rng: &mut Rng, rust: &mut Option<Lent>, run: Run) -> Vec<u8> {
     if let Some(image) = rust {
         rust::read(image, run, &mut lent);
     }
-    match rng.below(8) {
+    match rng.below(16) {
         0 => lent.truncate(lent.len().saturating_sub(1)),
-        1 => lent.extend([rng.byte(), rng.byte()]),
-        2..=4 => change_byte(rng, &mut lent),
+        1 | 2 => lent.extend([rng.byte(), rng.byte()]),
+        3..=8 => change_byte(rng, &mut lent),
         _ => {}
     }
     lent

@@ -29,25 +29,26 @@ const HUGE: [usize; 8] = [
     1 << 32,
 ];
 
-/// A run that lies in an image of so many sectors, ends at its end, or just does not.
+/// A run that mostly lies in an image of so many sectors; else one that just does not, or is far
+/// out.
 pub fn any_run(rng: &mut Rng, sectors: usize) -> Run {
-    let lsn = match rng.below(12) {
-        0..=6 => rng.below(sectors.max(1)),
-        7 => 0,
-        8 => sectors.saturating_sub(1),
-        9 => sectors,
-        10 => sectors + 1,
+    let lsn = match rng.below(32) {
+        0..=19 => rng.below(sectors.max(1)),
+        20..=26 => 0,
+        27 => sectors.saturating_sub(1),
+        28 | 29 => sectors,
+        30 => sectors + 1,
         _ => rng.pick(&[usize::MAX, u32::MAX as usize - 1, 1 << 31, 1 << 21]),
     };
     let lsn = lsn.min(u32::MAX as usize);
     let rest = sectors.saturating_sub(lsn);
-    let count = match rng.below(16) {
+    let count = match rng.below(32) {
         0 => 0,
         1 => 1,
-        2..=5 => rest,
-        6 => rest + 1,
-        7 => (usize::MAX - lsn).saturating_add(rng.below(2)),
-        8 => rng.pick(&HUGE),
+        2..=11 => rest,
+        12 | 13 => rest + 1,
+        14 => (usize::MAX - lsn).saturating_add(rng.below(2)),
+        15 => rng.pick(&HUGE),
         _ => 1 + rng.below(rest.max(1)),
     };
     Run { lsn: lsn as u32, count }
@@ -68,7 +69,7 @@ pub fn any_place(rng: &mut Rng, run: Run) -> Place {
     };
     let at = rng.pick(&[0, 0, 1, 7, DATA, 5000]);
     let len = at + need + rng.pick(&[0, 0, 1, 100]);
-    match rng.below(16) {
+    match rng.below(32) {
         0 => Place { len: (at + need).saturating_sub(1), at },
         1 => Place { len, at: len - need + 1 },
         2 => Place { len, at: rng.pick(&[len, len + 1, usize::MAX, usize::MAX - need]) },

@@ -75,6 +75,20 @@ fn lent_buffers_stay_small() {
 }
 
 #[test]
+fn most_runs_are_in_the_image_and_have_room() {
+    let good = (0..20_000).filter(|&case| {
+        let mut rng = Rng::of_case(3, case);
+        let sectors = any_image(&mut rng).sectors();
+        let run = any_run(&mut rng, sectors);
+        let place = any_place(&mut rng, run);
+        let end = run.data_bytes().and_then(|need| place.at.checked_add(need));
+        let inside = run.count > 0 && run.count.checked_add(run.lsn as usize) <= Some(sectors);
+        inside && end.is_some_and(|end| end <= place.len)
+    });
+    assert!(good.count() > 10_000);
+}
+
+#[test]
 fn numbers_are_asked_for_inside_across_and_behind_the_end() {
     let tables: Vec<_> = (0..1000).map(|case| any_table(&mut Rng::of_case(3, case))).collect();
     let left = |(table, at): &(Vec<u8>, usize)| table.len().saturating_sub(*at);
