@@ -2,7 +2,8 @@
 
 use std::time::Instant;
 
-const ROUNDS: usize = 3000;
+/// Rounds in each place.
+const ROUNDS: usize = 1000;
 /// A round calls its function often enough to take so many nanoseconds.
 const ROUND_NS: f64 = 20_000.0;
 
@@ -22,14 +23,17 @@ pub struct Row {
 }
 
 impl Row {
-    /// Times both, which work on the same buffer, and prints the line.
-    pub fn print(&self, buf: &mut [u8], library: impl Fn(&mut [u8]), other: impl Fn(&mut [u8])) {
-        let once = time(1, buf, &other).max(1.0);
-        let calls = (ROUND_NS / once).ceil() as usize;
+    /// Times both, which work on the same places, and prints the line. The places lie apart, so
+    /// that the pages that one of them happens to get do not decide.
+    pub fn print<P>(&self, places: &mut [P], library: impl Fn(&mut P), other: impl Fn(&mut P)) {
         let (mut ours, mut theirs) = (f64::MAX, f64::MAX);
-        for _ in 0..ROUNDS {
-            ours = ours.min(time(calls, buf, &library));
-            theirs = theirs.min(time(calls, buf, &other));
+        for place in places {
+            let once = time(1, place, &other).max(1.0);
+            let calls = (ROUND_NS / once).ceil() as usize;
+            for _ in 0..ROUNDS {
+                ours = ours.min(time(calls, place, &library));
+                theirs = theirs.min(time(calls, place, &other));
+            }
         }
         let Row { what, bytes, target } = self;
         let ratio = ours / theirs;
@@ -38,10 +42,10 @@ impl Row {
 }
 
 /// The nanoseconds of one call.
-fn time(calls: usize, buf: &mut [u8], call: impl Fn(&mut [u8])) -> f64 {
+fn time<P>(calls: usize, place: &mut P, call: impl Fn(&mut P)) -> f64 {
     let start = Instant::now();
     for _ in 0..calls {
-        call(buf);
+        call(place);
     }
     start.elapsed().as_nanos() as f64 / calls as f64
 }

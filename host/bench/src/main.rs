@@ -10,13 +10,16 @@ use generate::layout::{DATA, Layout, layout};
 use std::hint::black_box;
 
 const SECTORS: [usize; 2] = [10, 128];
+/// Places in memory that a line is timed in.
+const PLACES: usize = 8;
 
-/// An image of one format, and its data alone.
+/// An image of one format, its data alone, and a buffer that has them too.
 struct Disc {
     format: u32,
     form: Layout,
     image: &'static [u8],
     data: &'static [u8],
+    buf: &'static mut [u8],
 }
 
 /// Bytes that begin so far into a page. They are never given back.
@@ -27,55 +30,61 @@ fn room(bytes: usize, place: usize) -> &'static mut [u8] {
     &mut all[begin - PAGE..][..bytes]
 }
 
-/// A copy that begins half a page from where images begin: loads do not wait for stores to the
+/// The buffer begins half a page from where the image does: loads do not wait for stores to the
 /// same place of another page.
-fn lent(data: &[u8]) -> &'static mut [u8] {
-    let bytes = room(data.len(), 2048);
-    bytes.copy_from_slice(data);
-    bytes
-}
-
 fn disc(format: u32, sectors: usize) -> Disc {
     let form = layout(format).expect("0, 1 and 2 are formats");
     let image = room(sectors * form.stored, 0);
     Rng::new(1).fill(image);
-    let data = room(sectors * DATA, 0);
+    let [data, buf] = [0, 2048].map(|place| room(sectors * DATA, place));
     assert_eq!(sacd::read_sectors(format, image, 0, sectors, data, 0), 0);
-    Disc { format, form, image, data }
+    buf.copy_from_slice(data);
+    Disc { format, form, image, data, buf }
 }
 
-/// Discs of each size and format.
-fn discs() -> impl Iterator<Item = Disc> {
-    SECTORS.iter().flat_map(|&sectors| (0..3).map(move |format| disc(format, sectors)))
+/// The same disc in several places.
+fn discs(format: u32, sectors: usize) -> Vec<Disc> {
+    std::iter::repeat_with(|| disc(format, sectors)).take(PLACES).collect()
 }
 
-fn read(disc: &Disc, buf: &mut [u8]) {
+/// Each size and format.
+fn kinds() -> impl Iterator<Item = (usize, u32)> {
+    SECTORS.iter().flat_map(|&sectors| (0..3).map(move |format| (sectors, format)))
+}
+
+fn read(disc: &mut Disc) {
     let (image, count) = (black_box(disc.image), disc.data.len() / DATA);
-    black_box(sacd::read_sectors(disc.format, image, 0, count, black_box(buf), 0));
+    black_box(sacd::read_sectors(disc.format, image, 0, count, black_box(&mut *disc.buf), 0));
 }
 
-fn memcpy(disc: &Disc, buf: &mut [u8]) {
+/// As many bytes, all in one: what no format but 0 could do.
+fn memcpy(disc: &mut Disc) {
     let image = black_box(disc.image);
-    black_box(buf).copy_from_slice(&image[..disc.data.len()]);
+    black_box(&mut *disc.buf).copy_from_slice(&image[..disc.data.len()]);
 }
 
-/// The plain Rust of copying the data, a sector at a time.
-fn copy_by_sector(disc: &Disc, buf: &mut [u8]) {
+/// The same bytes from the same places: a memcpy for each sector.
+fn memcpy_by_sector(disc: &mut Disc) {
     let Layout { stored, data_at } = disc.form;
     let sectors = black_box(disc.image).chunks_exact(stored);
-    for (sector, part) in sectors.zip(black_box(buf).chunks_exact_mut(DATA)) {
+    for (sector, part) in sectors.zip(black_box(&mut *disc.buf).chunks_exact_mut(DATA)) {
         part.copy_from_slice(&sector[data_at..data_at + DATA]);
     }
 }
 
-fn compare(disc: &Disc, lent: &[u8]) {
+fn compare(disc: &mut Disc) {
     let (image, count) = (black_box(disc.image), disc.data.len() / DATA);
-    let answer = sacd::compare_sectors(disc.format, image, 0, count, black_box(lent));
+    let answer = sacd::compare_sectors(disc.format, image, 0, count, black_box(&*disc.buf));
     assert_eq!((answer.refusal, answer.equal), (0, 1));
 }
 
-fn memcmp(disc: &Disc, lent: &[u8]) {
-    assert!(black_box(disc.data) == black_box(lent));
+fn memcmp(disc: &mut Disc) {
+    assert!(black_box(disc.data) == black_box(&*disc.buf));
+}
+
+fn digest(disc: &mut Disc) {
+    let sector = black_box(&*disc.buf).try_into().expect("one sector");
+    black_box(oracle::digest(sector));
 }
 
 fn row(what: &str, bytes: usize, target: f64) -> Row {
@@ -83,40 +92,32 @@ fn row(what: &str, bytes: usize, target: f64) -> Row {
 }
 
 fn copying() {
-    for disc in discs() {
-        let (format, bytes) = (disc.format, disc.data.len());
-        let buf = lent(disc.data);
-        let plain = row(&format!("copy, format {format}, memcpy"), bytes, 1.5);
-        plain.print(buf, |buf| read(&disc, buf), |buf| memcpy(&disc, buf));
-        let by_sector = row(&format!("copy, format {format}, by sector"), bytes, 1.5);
-        by_sector.print(buf, |buf| read(&disc, buf), |buf| copy_by_sector(&disc, buf));
+    for (sectors, format) in kinds() {
+        let mut discs = discs(format, sectors);
+        let whole = row(&format!("copy, format {format}, memcpy"), sectors * DATA, 1.5);
+        whole.print(&mut discs, read, memcpy);
+        let by_sector = row(&format!("copy, format {format}, by sector"), sectors * DATA, 1.5);
+        by_sector.print(&mut discs, read, memcpy_by_sector);
     }
 }
 
 fn comparing() {
-    for disc in discs() {
-        let lent = lent(disc.data);
-        let row = row(&format!("compare, format {}, memcmp", disc.format), lent.len(), 3.0);
-        row.print(lent, |lent| compare(&disc, lent), |lent| memcmp(&disc, lent));
+    for (sectors, format) in kinds() {
+        let row = row(&format!("compare, format {format}, memcmp"), sectors * DATA, 3.0);
+        row.print(&mut discs(format, sectors), compare, memcmp);
     }
-}
-
-fn digest(sector: &[u8]) {
-    let sector = black_box(sector).try_into().expect("one sector");
-    black_box(oracle::digest(sector));
 }
 
 fn fingerprints() {
     for format in 0..3 {
-        let disc = disc(format, 1);
-        let fingerprint = || black_box(sacd::fingerprint(format, black_box(disc.image), 0));
+        let fingerprint = |disc: &mut Disc| {
+            black_box(sacd::fingerprint(format, black_box(disc.image), 0));
+        };
         let row = row(&format!("fingerprint, format {format}, digest"), DATA, 1.1);
-        let sector = lent(disc.data);
-        row.print(sector, |_| _ = fingerprint(), |sector| digest(sector));
+        row.print(&mut discs(format, 1), fingerprint, digest);
     }
-    let sector = lent(disc(0, 1).data);
-    let library = |sector: &mut [u8]| _ = black_box(sacd::digest(black_box(sector)));
-    row("digest, digest", DATA, 1.1).print(sector, library, |sector| digest(sector));
+    let library = |disc: &mut Disc| _ = black_box(sacd::digest(black_box(&*disc.buf)));
+    row("digest, digest", DATA, 1.1).print(&mut discs(0, 1), library, digest);
 }
 
 fn main() {
