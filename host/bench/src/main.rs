@@ -82,9 +82,23 @@ fn memcmp(disc: &mut Disc) {
     assert!(black_box(disc.data) == black_box(&*disc.buf));
 }
 
-fn digest(disc: &mut Disc) {
-    let sector = black_box(&*disc.buf).try_into().expect("one sector");
-    black_box(oracle::digest(sector));
+/// The digest of each sector.
+fn digests(disc: &mut Disc) {
+    for sector in black_box(&*disc.buf).chunks_exact(DATA) {
+        black_box(oracle::digest(sector.try_into().expect("one sector")));
+    }
+}
+
+fn library_digests(disc: &mut Disc) {
+    for sector in black_box(&*disc.buf).chunks_exact(DATA) {
+        black_box(sacd::digest(sector));
+    }
+}
+
+fn library_fingerprints(disc: &mut Disc) {
+    for lsn in 0..disc.data.len() / DATA {
+        black_box(sacd::fingerprint(disc.format, black_box(disc.image), lsn as u32));
+    }
 }
 
 fn row(what: &str, bytes: usize, target: f64) -> Row {
@@ -109,15 +123,14 @@ fn comparing() {
 }
 
 fn fingerprints() {
-    for format in 0..3 {
-        let fingerprint = |disc: &mut Disc| {
-            black_box(sacd::fingerprint(format, black_box(disc.image), 0));
-        };
-        let row = row(&format!("fingerprint, format {format}, digest"), DATA, 1.1);
-        row.print(&mut discs(format, 1), fingerprint, digest);
+    for (sectors, format) in kinds() {
+        let row = row(&format!("fingerprint, format {format}, digest"), sectors * DATA, 1.1);
+        row.print(&mut discs(format, sectors), library_fingerprints, digests);
     }
-    let library = |disc: &mut Disc| _ = black_box(sacd::digest(black_box(&*disc.buf)));
-    row("digest, digest", DATA, 1.1).print(&mut discs(0, 1), library, digest);
+    for sectors in SECTORS {
+        let row = row("digest, digest", sectors * DATA, 1.1);
+        row.print(&mut discs(0, sectors), library_digests, digests);
+    }
 }
 
 fn main() {
