@@ -101,16 +101,14 @@ fn library_fingerprints(disc: &mut Disc) {
     }
 }
 
-fn row(what: &str, bytes: usize, target: impl Into<Option<f64>>) -> Row {
-    Row { what: what.to_string(), bytes, target: target.into() }
+fn row(what: &str, bytes: usize, target: f64) -> Row {
+    Row { what: what.to_string(), bytes, target }
 }
 
 fn copying() {
     for (sectors, format) in kinds() {
         let mut discs = discs(format, sectors);
-        // One memcpy has a target where it does the same work.
-        let target = (format == 0).then_some(1.5);
-        let whole = row(&format!("copy, format {format}, memcpy"), sectors * DATA, target);
+        let whole = row(&format!("copy, format {format}, memcpy"), sectors * DATA, 1.5);
         whole.print(&mut discs, read, memcpy);
         let by_sector = row(&format!("copy, format {format}, by sector"), sectors * DATA, 1.5);
         by_sector.print(&mut discs, read, memcpy_by_sector);
