@@ -1,5 +1,6 @@
 // What C and Rust link: the functions of the layers below, under names that begin `sacd_`. Each hands an answer on.
 ghost use mathlib.Core.Path.{_≡_};
+ghost use mathlib.Core.List.{[], _∷_};
 ghost use Prim.Native.Nat.{_*_, _%_, _^_};
 ghost use lib.ListN.{length};
 ghost use Rattle.sectors.specs.Audit.{SoundIn, auditOf};
@@ -7,10 +8,18 @@ ghost use Rattle.sectors.specs.Fnv.{digestOf, fingerprintOf};
 ghost use Rattle.sectors.specs.Number.{beAt};
 ghost use Rattle.sectors.specs.Run.{readRefusal, readInto, comparisonOf};
 ghost use Rattle.sectors.specs.Sector.{sectorCount, readable};
+ghost use Rattle.text.specs.Charset.{charsetOf};
+ghost use Rattle.text.specs.Decode.{decodeOf, decodeInto};
+ghost use Rattle.text.specs.Fixed.{fixedBytesOf, fixedTextOf};
+ghost use Rattle.text.specs.Language.{languageOf};
+ghost use Rattle.text.specs.String.{stringAt};
 use sectors::fnv::FingerprintAnswer;
 use sectors::header::AuditAnswer;
 use sectors::run::Comparison;
 use sectors::sector::Lsn;
+use text::decode::DecodeAnswer;
+use text::fixed::FixedText;
+use text::language::LanguageCode;
 
 // The byte at a place of a table; 0 past its end.
 #[no_mangle]
@@ -114,4 +123,54 @@ pub extern "C" fn sacd_audit(format: u32, image: &[u8], lsn: Lsn) -> AuditAnswer
 {
     let answer = sectors::header::audit(format, image, lsn);
     sectors::header::audit_answer(answer)
+}
+
+// How many bytes the string at a place has; they stand there in the table.
+#[no_mangle]
+pub extern "C" fn sacd_string_length(table: &[u8], place: usize) -> usize
+    ensures { λ r. ⌜ r ≡ length (stringAt (now (table .entry)) place) ⌝ }
+{
+    let bytes = text::string::string_bytes(table, place);
+    bytes.len()
+}
+
+// The set of a code: 3 to 6, or 0 for Latin-1.
+#[no_mangle]
+pub extern "C" fn sacd_charset(code: u8) -> u8
+    ensures { λ r. ⌜ r ≡ charsetOf code ⌝ }
+{
+    text::charset::charset(code)
+}
+
+// Decodes a string's bytes, of the set that a code names, to the start of a page. A refusal changes nothing.
+#[no_mangle]
+pub extern "C" fn sacd_decode(bytes: &[u8], code: u8, page: &mut [u8]) -> DecodeAnswer
+    ensures answer { λ r. ⌜ r ≡ decodeOf (now (bytes .entry)) code (length (now (page .entry))) ⌝ }
+    ensures filled { λ r. ⌜ now (page .exit) ≡ decodeInto (now (bytes .entry)) code (now (page .entry)) ⌝ }
+{
+    text::decode::decode(bytes, code, page)
+}
+
+// The text of a field as it is stored; of a longer field than 16 bytes the first 16 count.
+#[no_mangle]
+pub extern "C" fn sacd_fixed_bytes(field: &[u8]) -> FixedText
+    ensures { λ r. ⌜ r ≡ fixedBytesOf (now (field .entry)) ⌝ }
+{
+    text::fixed::fixed_bytes(field)
+}
+
+// The text of a field, trimmed at both ends; of a longer field than 16 bytes the first 16 count.
+#[no_mangle]
+pub extern "C" fn sacd_fixed_text(field: &[u8]) -> FixedText
+    ensures { λ r. ⌜ r ≡ fixedTextOf (now (field .entry)) ⌝ }
+{
+    text::fixed::fixed_text(field)
+}
+
+// The language that two characters name.
+#[no_mangle]
+pub extern "C" fn sacd_language(first: u8, second: u8) -> LanguageCode
+    ensures { λ r. ⌜ r ≡ languageOf (first ∷ second ∷ []) ⌝ }
+{
+    text::language::language([first, second])
 }

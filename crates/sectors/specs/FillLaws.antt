@@ -1,12 +1,12 @@
 -- Laws of lent memory: what a part of it is, and what stands in a part after a fill. Assumes nothing.
-use Prim.Native.Nat.{ℕ, suc, _+_, _-_, _≤_, _<_}
+use Prim.Native.Nat.{ℕ, zero, suc, _+_, _-_, _≤_, _<_, min}
 use native.Mathlib.Omega.{arith}
 use native.Mathlib.Nat.{add-zero}
 use mathlib.Core.Path.{_≡_, sym, _∙_, ap}
 use mathlib.Core.List.{List, [], _∷_, _++_, append-assoc}
 use borrow.Rule.Slice.PartMut.{putMid}
-use lib.ListN.{length, take, drop, getD, set, length-append, length-drop, take-append-drop}
-use lib.Seq.{length-take-le, take-append-le, drop-append-le, drop-append-add, take-append-seam, drop-drop, drop-cons, set-at, take-at, drop-at, getD-take, getD-drop}
+use lib.ListN.{length, take, drop, getD, set, length-append, length-take, length-drop, take-append-drop, drop-of-length-le}
+use lib.Seq.{sets, sets-eq, take-nil, take-take, length-take-le, take-append-le, drop-append-le, drop-append-add, take-append-seam, drop-drop, drop-cons, set-at, take-at, drop-at, getD-take, getD-drop}
 use Rattle.sectors.specs.Fill.{part, fill}
 
 module _ {A : Type 0} where
@@ -27,6 +27,31 @@ module _ {A : Type 0} where
   pub part-at : (at n : ℕ) (l : List A) (i : ℕ) (d : A) → i < n → getD (part at n l) i d ≡ getD l (at + i) d
   unfolding part
   part-at at n l i d q = getD-take n (drop at l) i d q ∙ getD-drop at l i d
+
+  -- at or past the end there is no part
+  pub part-past : (at n : ℕ) (l : List A) → length l ≤ at → part at n l ≡ []
+  unfolding part
+  part-past at n l h = rw (drop-of-length-le l h) (take-nil n)
+
+  -- a part that runs past the end is what stands before it
+  pub part-cut : (at n : ℕ) (l : List A) → part at (min n (length l - at)) l ≡ part at n l
+  unfolding part
+  part-cut at n l = rw (← length-drop at l) (take-min n (drop at l))
+    where
+      take-min : (n : ℕ) (l : List A) → take (min n (length l)) l ≡ take n l
+      take-min zero l = let e : min 0 (length l) ≡ 0 = omega arith in rw e
+      take-min (suc n) [] = take-nil (min (suc n) 0)
+      take-min (suc n) (x ∷ xs) = let e : min (suc n) (suc (length xs)) ≡ suc (min n (length xs)) = omega arith in rw (e, take-min n xs)
+
+  -- how long a part is
+  pub part-size : (at n : ℕ) (l : List A) → length (part at n l) ≡ min n (length l - at)
+  unfolding part
+  part-size at n l = rw (length-take n (drop at l), length-drop at l)
+
+  -- the front of a part
+  pub take-part : (at m n : ℕ) (l : List A) → m ≤ n → take m (part at n l) ≡ part at m l
+  unfolding part
+  take-part at m n l h = take-take m n (drop at l) h
 
   -- a part of the first of two lists
   pub part-front : (x y : List A) (at n : ℕ) → at + n ≤ length x → part at n (x ++ y) ≡ part at n x
@@ -53,6 +78,11 @@ module _ {A : Type 0} where
   pub fill-none : (at : ℕ) (old : List A) → fill at [] old ≡ old
   unfolding fill
   fill-none at old = simp (add-zero, take-append-drop)
+
+  -- elements stored one after another fill their places
+  pub sets-fill : (at : ℕ) (new old : List A) → at + length new ≤ length old → sets old at new ≡ fill at new old
+  unfolding fill
+  sets-fill at new old h = sets-eq new old at h ∙ append-assoc (take at old) new (drop (at + length new) old)
 
   module _ (at : ℕ) (new old : List A) (fits : at + length new ≤ length old) where
     front-length : length (take at old) ≡ at

@@ -1,4 +1,6 @@
-// Published vectors of FNV-1a, and cards of the header audit, the fingerprint and the numbers, written one to a line.
+// Published vectors of FNV-1a, and cards of the header audit, the fingerprint and the texts, written one to a line.
+mod texts;
+
 use libc::STDOUT_FILENO;
 use sectors::header::AuditResult;
 use sectors::sector::Lsn;
@@ -103,4 +105,5 @@ fn main() {
     digests();
     headers();
     refusals();
+    texts::cards();
 }

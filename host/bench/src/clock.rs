@@ -18,8 +18,8 @@ pub fn heading() {
 pub struct Row {
     pub what: String,
     pub bytes: usize,
-    /// The largest ratio that is wanted.
-    pub target: f64,
+    /// The largest ratio that is wanted, if one is.
+    pub target: Option<f64>,
 }
 
 impl Row {
@@ -37,7 +37,8 @@ impl Row {
         }
         let Row { what, bytes, target } = self;
         let ratio = ours / theirs;
-        println!("{what:<34}{bytes:>8}{ours:>13.0}{theirs:>11.0}{ratio:>8.2}  <= {target:.1}");
+        let target = target.map_or("none".to_string(), |target| format!("<= {target:.1}"));
+        println!("{what:<34}{bytes:>8}{ours:>13.0}{theirs:>11.0}{ratio:>8.2}{target:>8}");
     }
 }
 

@@ -1,8 +1,9 @@
-//! Times the static library beside memcpy, memcmp and the customer's `digest`, in one process
-//! and over the same warm buffers. Each time is the best of many rounds, in which the two take
-//! turns. Build it for release.
+//! Times the static library beside memcpy, memcmp and the customer's `digest`, `decode_string`
+//! and `string_bytes`, in one process and over the same warm buffers. Each time is the best of
+//! many rounds, in which the two take turns. Build it for release.
 
 mod clock;
+mod text;
 
 use clock::Row;
 use generate::Rng;
@@ -102,7 +103,7 @@ fn library_fingerprints(disc: &mut Disc) {
 }
 
 fn row(what: &str, bytes: usize, target: f64) -> Row {
-    Row { what: what.to_string(), bytes, target }
+    Row { what: what.to_string(), bytes, target: Some(target) }
 }
 
 fn copying() {
@@ -138,4 +139,6 @@ fn main() {
     copying();
     comparing();
     fingerprints();
+    text::decoding();
+    text::strings();
 }

@@ -4,20 +4,24 @@
 //! empty, so that the comparison would say nothing about it.
 
 mod extent;
+mod fields;
 mod headers;
 mod numbers;
 mod rust;
 mod sectors;
+mod strings;
 mod tally;
 
 use extent::Extent;
+use fields::Fields;
 use generate::Rng;
 use numbers::Numbers;
 use sectors::Sectors;
 use std::process::ExitCode;
+use strings::Strings;
 use tally::Kind;
 
-const USAGE: &str = "usage: compare [--short] [--seed N] [--cases N] [--headers N]";
+const USAGE: &str = "usage: compare [--short] [--seed N] [--cases N] [--headers N] [--texts N]";
 
 struct Options {
     seed: u64,
@@ -25,17 +29,20 @@ struct Options {
     cases: u64,
     /// Headers for the audit, at least.
     headers: u64,
+    /// Random strings, as many texts to decode, and as many fields.
+    texts: u64,
 }
 
 fn options() -> Option<Options> {
-    let mut options = Options { seed: 1, cases: 20_000, headers: 1_000_000 };
+    let mut options = Options { seed: 1, cases: 20_000, headers: 1_000_000, texts: 100_000 };
     let mut words = std::env::args().skip(1);
     while let Some(word) = words.next() {
         match word.as_str() {
-            "--short" => (options.cases, options.headers) = (2_000, 20_000),
+            "--short" => (options.cases, options.headers, options.texts) = (2_000, 20_000, 5_000),
             "--seed" => options.seed = words.next()?.parse().ok()?,
             "--cases" => options.cases = words.next()?.parse().ok()?,
             "--headers" => options.headers = words.next()?.parse().ok()?,
+            "--texts" => options.texts = words.next()?.parse().ok()?,
             _ => return None,
         }
     }
@@ -55,11 +62,28 @@ fn run(options: &Options) -> Vec<Kind> {
         numbers.cases(&mut rng);
     }
     headers::cases(&mut headers, &mut Rng::new(options.seed), options.headers);
+    let (fields, strings) = texts(options);
     let Extent { sector_count, contains } = extent;
     let Sectors { read, compare, fingerprint, audit } = sectors;
     let Numbers { byte, be16, be32, product, digest } = numbers;
-    let first = [sector_count, contains, read, compare, fingerprint, audit, headers];
-    first.into_iter().chain([product, digest, byte, be16, be32]).collect()
+    let Strings { string_bytes, decode } = strings;
+    let Fields { charset, language, fixed_bytes, fixed_text } = fields;
+    let sectors = [sector_count, contains, read, compare, fingerprint, audit, headers];
+    let numbers = [product, digest, byte, be16, be32];
+    let texts = [string_bytes, charset, decode, fixed_bytes, fixed_text, language];
+    sectors.into_iter().chain(numbers).chain(texts).collect()
+}
+
+fn texts(options: &Options) -> (Fields, Strings) {
+    let (mut fields, mut strings) = (Fields::new(), Strings::new());
+    fields.all();
+    strings.all();
+    for case in 0..options.texts {
+        let mut rng = Rng::of_case(options.seed, case);
+        fields.cases(&mut rng);
+        strings.cases(&mut rng);
+    }
+    (fields, strings)
 }
 
 fn print(kinds: &[Kind]) {
@@ -80,7 +104,7 @@ fn main() -> ExitCode {
         eprintln!("{USAGE}");
         return ExitCode::from(2);
     };
-    println!("seed {}, {} images", options.seed, options.cases);
+    println!("seed {}, {} images, {} texts", options.seed, options.cases, options.texts);
     let kinds = run(&options);
     print(&kinds);
     let mut status = 0;

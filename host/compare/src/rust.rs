@@ -3,6 +3,8 @@
 use generate::question::Run;
 use oracle::error::Error;
 use oracle::image::{Image, SectorFormat};
+use oracle::text::{self, Charset};
+use sacd::{FixedText, LanguageCode};
 use std::io::{self, Cursor, Read, Seek, SeekFrom};
 
 /// An image of the Rust over lent bytes.
@@ -33,6 +35,56 @@ pub fn read(image: &mut Lent, run: Run, part: &mut [u8]) -> u8 {
         Err(Error::SectorRangeInvalid { .. }) => 8,
         Err(_) => FAILED,
     }
+}
+
+/// The number of the set that a code names; 0 for Latin-1.
+pub fn charset(code: u8) -> u8 {
+    match Charset::from_code(code) {
+        Charset::Latin1 => 0,
+        Charset::ShiftJisX0213 => 3,
+        Charset::EucKr => 4,
+        Charset::EucCn => 5,
+        Charset::Big5 => 6,
+    }
+}
+
+/// The text of a string's bytes, in the set that a code names; nothing if it is absent.
+pub fn decode(bytes: &[u8], code: u8) -> Option<String> {
+    text::decode_string(bytes, Charset::from_code(code))
+}
+
+/// The stored text of a field's first 16 bytes.
+pub fn fixed_bytes(field: &[u8]) -> FixedText {
+    let (bytes, len) = padded(text::fixed_bytes(first_16(field)));
+    FixedText { bytes, len }
+}
+
+/// The trimmed text of a field's first 16 bytes.
+pub fn fixed_text(field: &[u8]) -> FixedText {
+    let (bytes, len) = padded(&one_a_character(&text::fixed_text(first_16(field))));
+    FixedText { bytes, len }
+}
+
+/// The language that two characters name.
+pub fn language(code: [u8; 2]) -> LanguageCode {
+    let (bytes, len) = padded(&one_a_character(&text::language(code)));
+    LanguageCode { bytes, len }
+}
+
+fn first_16(field: &[u8]) -> &[u8] {
+    &field[..field.len().min(16)]
+}
+
+/// The characters of a text as bytes; 0 for one that Latin-1 does not have.
+fn one_a_character(text: &str) -> Vec<u8> {
+    text.chars().map(|c| u8::try_from(c).unwrap_or(0)).collect()
+}
+
+/// A text in `N` bytes, zero past it, and its length.
+fn padded<const N: usize>(text: &[u8]) -> ([u8; N], u8) {
+    let mut bytes = [0; N];
+    bytes[..text.len()].copy_from_slice(text);
+    (bytes, text.len() as u8)
 }
 
 /// A reader of which only the length is known.

@@ -29,7 +29,7 @@ struct Written<'a> {
 
 /// The bytes of a buffer; in print, their number, the first ones and a digest.
 #[derive(PartialEq)]
-struct Buffer<'a>(&'a [u8]);
+pub struct Buffer<'a>(pub &'a [u8]);
 
 impl std::fmt::Debug for Buffer<'_> {
     fn fmt(&self, f: &mut std::fmt::Formatter<'_>) -> std::fmt::Result {

@@ -69,6 +69,8 @@ fn refusal_class(refusal: u8) -> &'static str {
         1 => "refusal 1",
         2 => "refusal 2",
         8 => "refusal 8",
+        9 => "refusal 9",
+        10 => "refusal 10",
         11 => "refusal 11",
         _ => "another refusal",
     }

@@ -3,6 +3,7 @@ use crate::header::{Header, correct, damaged, is_sound, single_changes, times};
 use crate::image::{CONTENTS, Image, any_image};
 use crate::layout::{DATA, layout};
 use crate::question::{any_byte_count, any_place, any_run, any_table};
+use crate::text::{self, any_field, any_page_length, any_string, any_text, utf8_length};
 
 fn images(seed: u64, cases: u64) -> impl Iterator<Item = Image> {
     (0..cases).map(move |case| any_image(&mut Rng::of_case(seed, case)))
@@ -142,4 +143,63 @@ fn no_single_change_is_sound() {
     let header = correct([0, 3, 1, 254]);
     assert_eq!(single_changes(header).count(), 6 * 255);
     assert!(single_changes(header).all(|changed| !is_sound(changed)));
+}
+
+#[test]
+fn strings_end_at_a_zero_after_4096_bytes_and_at_the_end() {
+    let strings: Vec<_> = (0..5000).map(|case| any_string(&mut Rng::of_case(3, case))).collect();
+    // The bytes before the first zero, however many, and whether there is one.
+    let ends: Vec<_> = (strings.iter())
+        .filter_map(|(table, place)| table.get(*place..))
+        .map(|rest| {
+            rest.iter().position(|&byte| byte == 0).map_or((rest.len(), false), |n| (n, true))
+        })
+        .collect();
+    for length in [0, 1, text::MOST - 1, text::MOST, text::MOST + 1] {
+        assert!(ends.contains(&(length, true)) && ends.contains(&(length, false)), "{length}");
+    }
+    assert!(strings.iter().any(|(table, place)| *place == table.len() + 1));
+    assert!(strings.iter().any(|(table, place)| *place == usize::MAX && !table.is_empty()));
+}
+
+#[test]
+fn texts_of_every_sort_have_4096_bytes() {
+    let texts: Vec<_> = (0..2000).map(|case| any_text(&mut Rng::of_case(3, case))).collect();
+    let long = |text: &&Vec<u8>| text.len() == text::MOST;
+    assert!(texts.iter().any(Vec::is_empty) && texts.iter().any(|text| text.len() > text::MOST));
+    assert!(texts.iter().filter(long).any(|text| text.iter().all(|byte| *byte >= 0x80)));
+    assert!(texts.iter().filter(long).any(|text| text.iter().all(|byte| (32..128).contains(byte))));
+    assert!(texts.iter().filter(long).any(|text| text.is_ascii() && text.contains(&0x1f)));
+}
+
+#[test]
+fn pages_have_room_to_the_byte_or_lack_one() {
+    let mut rng = Rng::new(3);
+    let pages: Vec<_> = (0..1000).map(|_| any_page_length(&mut rng, 5)).collect();
+    assert!((0..10).all(|length| pages.contains(&length)));
+    let text: Vec<u8> = (0..=255).collect();
+    let utf8: String = text.iter().map(|&byte| char::from(byte)).collect();
+    assert_eq!(utf8_length(&text), utf8.len());
+}
+
+#[test]
+fn every_byte_stands_in_every_place_of_a_field() {
+    let fields: Vec<_> = text::single_fields().collect();
+    assert_eq!(fields.len(), (1..=17).sum::<usize>() * 256 * 4);
+    let mut met = vec![[[false; 256]; 17]; 18];
+    for field in &fields {
+        for (at, &byte) in field.iter().enumerate() {
+            met[field.len()][at][usize::from(byte)] = true;
+        }
+    }
+    assert!((1..=17).all(|length| met[length][..length].iter().all(|place| *place == [true; 256])));
+    assert_eq!(text::double_fields().count(), 16 * 256);
+    assert_eq!(text::single_texts(0).count(), (1..=70).sum::<usize>());
+}
+
+#[test]
+fn fields_have_none_to_40_bytes() {
+    let fields: Vec<_> = (0..2000).map(|case| any_field(&mut Rng::of_case(3, case))).collect();
+    assert!((0..=40).all(|length| fields.iter().any(|field| field.len() == length)));
+    assert!(fields.iter().any(|field| field.len() == 16 && !field.contains(&0)));
 }

@@ -1,7 +1,7 @@
 //! The C interface of libsacd.a, as the crate `sacd` of the repository exports it.
 //! A slice is a pointer and then a length.
 
-use crate::{AuditAnswer, Comparison, Fingerprint};
+use crate::{AuditAnswer, Comparison, DecodeAnswer, Fingerprint, FixedText, LanguageCode};
 
 unsafe extern "C" {
     pub safe fn sacd_sector_count(format: u32, bytes: usize) -> usize;
@@ -37,4 +37,16 @@ unsafe extern "C" {
     pub fn sacd_byte_at(table: *const u8, table_len: usize, at: usize) -> u8;
     pub fn sacd_be16_at(table: *const u8, table_len: usize, at: usize) -> u16;
     pub fn sacd_be32_at(table: *const u8, table_len: usize, at: usize) -> u32;
+    pub fn sacd_string_length(table: *const u8, table_len: usize, place: usize) -> usize;
+    pub safe fn sacd_charset(code: u8) -> u8;
+    pub fn sacd_decode(
+        bytes: *const u8,
+        bytes_len: usize,
+        code: u8,
+        page: *mut u8,
+        page_len: usize,
+    ) -> DecodeAnswer;
+    pub fn sacd_fixed_bytes(field: *const u8, field_len: usize) -> FixedText;
+    pub fn sacd_fixed_text(field: *const u8, field_len: usize) -> FixedText;
+    pub safe fn sacd_language(first: u8, second: u8) -> LanguageCode;
 }

@@ -5,6 +5,10 @@
 //! or a [`Format`]. A refusal is a number ([`refusal`]), 0 when there is none.
 
 mod ffi;
+mod text;
+
+pub use text::{DecodeAnswer, FixedText, LanguageCode};
+pub use text::{charset, decode, fixed_bytes, fixed_text, language, string_bytes, string_length};
 
 /// The numbers of the refusals.
 pub mod refusal {
@@ -16,6 +20,10 @@ pub mod refusal {
     pub const SHORT_BUFFER: u8 = 2;
     /// A sector is not in the image.
     pub const NO_SUCH_ENTRY: u8 = 8;
+    /// The text is of set 3, 4, 5 or 6, whose mappings are not held.
+    pub const SET_NOT_HELD: u8 = 9;
+    /// The decoded text is longer than the lent page.
+    pub const SHORT_PAGE: u8 = 10;
     /// Sectors of this format have no header.
     pub const NO_HEADER: u8 = 11;
 }

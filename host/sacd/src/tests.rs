@@ -59,3 +59,79 @@ fn a_sector_is_read_and_the_rest_of_the_buffer_stays() {
     assert_eq!(read_sectors(Format::Raw2054, &image, 0, 1, &mut buf, 1), refusal::NONE);
     assert_eq!((buf[0], buf[1], buf[2], buf[2048], buf[2049]), (9, 1, 7, 2, 9));
 }
+
+#[test]
+fn a_string_ends_at_a_zero_after_4096_bytes_or_at_the_end() {
+    let mut table = [b'a'; 4200];
+    table[4197] = 0;
+    let length = |place| string_bytes(&table, place).len();
+    assert_eq!([0, 100, 101, 102, 4197].map(length), [4096, 4096, 4096, 4095, 0]);
+    assert_eq!([4198, 4199, 4200, 4201, usize::MAX].map(length), [2, 1, 0, 0, 0]);
+    assert_eq!([4199, 4200, usize::MAX].map(|place| string_length(&table, place)), [1, 0, 0]);
+    assert_eq!(string_bytes(&table, 7).as_ptr(), &raw const table[7]);
+    assert!(string_bytes(&[], 0).is_empty());
+}
+
+#[test]
+fn code_8_is_latin_1_and_11_is_set_3() {
+    assert_eq!([0, 1, 2, 7, 8, 15, 255].map(charset), [0; 7]);
+    assert_eq!([3, 4, 5, 6, 11, 254].map(charset), [3, 4, 5, 6, 3, 6]);
+}
+
+/// The answer of decoding into a page of nines, and the page.
+fn decoded<const N: usize>(bytes: &[u8], code: u8) -> (DecodeAnswer, [u8; N]) {
+    let mut page = [9; N];
+    (decode(bytes, code, &mut page), page)
+}
+
+fn refused(refusal: u8) -> DecodeAnswer {
+    DecodeAnswer { refusal, length: 0 }
+}
+
+#[test]
+fn byte_e9_gives_c3_a9_and_the_rest_of_the_page_stays() {
+    let text = |length| DecodeAnswer { refusal: refusal::NONE, length };
+    assert_eq!(decoded(&[0xe9], 8), (text(2), [0xc3, 0xa9, 9]));
+    assert_eq!(decoded(&[0xe9], 0), (text(2), [0xc3, 0xa9]));
+    assert_eq!(decoded(b"a\x1f\x7f\x80\xff", 2), (text(7), *b"a \x7f\xc2\x80\xc3\xbf\x09"));
+}
+
+#[test]
+fn a_short_page_is_refused_and_stays() {
+    assert_eq!(decoded(&[0xe9], 0), (refused(refusal::SHORT_PAGE), [9]));
+    assert_eq!(decoded(b"abc", 0), (refused(refusal::SHORT_PAGE), [9; 2]));
+    assert_eq!(decoded(b"a", 0), (refused(refusal::SHORT_PAGE), []));
+}
+
+#[test]
+fn sets_3_to_6_are_refused_where_there_is_a_text() {
+    for code in [3, 4, 5, 6, 11] {
+        assert_eq!(decoded(b"a", code), (refused(refusal::SET_NOT_HELD), [9; 2]));
+        assert_eq!(decoded(b"a", code), (refused(refusal::SET_NOT_HELD), []));
+        assert_eq!(decoded(b"", code), (refused(refusal::NONE), [9; 2]));
+        assert_eq!(decoded(b"", code), (refused(refusal::NONE), []));
+    }
+}
+
+#[test]
+fn fields_end_at_a_zero_and_are_trimmed_at_both_ends() {
+    let field = b"\x20\x09A\x01 B\xa0\x85\0C";
+    assert_eq!(fixed_bytes(field).text(), b"\x20\x09A\x01 B\xa0\x85");
+    assert_eq!(fixed_text(field).text(), b"A\x01 B");
+    let bytes = *b"A\x01 B\0\0\0\0\0\0\0\0\0\0\0\0";
+    assert_eq!(fixed_text(field), FixedText { bytes, len: 4 });
+    for field in [&b""[..], b"\0A", b" \r\x1c"] {
+        assert_eq!(fixed_text(field), FixedText { bytes: [0; 16], len: 0 });
+    }
+    let longer = b" BCDEFGHIJKLMNO\x0dQ";
+    assert_eq!(fixed_bytes(longer).text(), &longer[..16]);
+    assert_eq!(fixed_text(longer).text(), &longer[1..15]);
+}
+
+#[test]
+fn a_language_has_no_zeros_and_blanks_at_its_end() {
+    let codes = [*b"en", *b" a", *b"e ", *b"e\0", *b"\0 ", *b"\0a"];
+    let texts: [&[u8]; 6] = [b"en", b" a", b"e", b"e", b"", b"\0a"];
+    assert_eq!(codes.map(|code| language(code).text().to_vec()), texts.map(<[u8]>::to_vec));
+    assert_eq!(language(*b"e "), LanguageCode { bytes: *b"e\0", len: 1 });
+}

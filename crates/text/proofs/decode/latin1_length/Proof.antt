@@ -1,0 +1,77 @@
+-- `text::decode::latin1_length` meets its contract: a byte passed counts once, and once more if it is 128 or above. Assumes nothing.
+use mathlib.Core.Path.{_≡_, refl, sym, ap, _∙_}
+use mathlib.Core.List.{List}
+use Prim.Native.Nat.{ℕ, _+_, _-_, _≤_}
+use native.Mathlib.Omega.{arith}
+use denote.Ref.{now}
+use lib.ListN.{length, getD, take, length-append}
+use lib.Seq.{take-all}
+use borrow.Author.Needs.{needs}
+use Rattle.text.specs.Utf8.{utf8, blanked, encoded}
+use Rattle.text.specs.Utf8Laws.{latin1-size, encoded-more, ascii-length}
+use Rattle.text.proofs.decode.latin1_length.Statement.{statement}
+use Rattle.text.proofs.decode.latin1_length.Tie as tie
+
+abbrev Inv-loop : tie.InvT-loop
+Inv-loop bytes n₀ i₀ n i = (i ≤ length bytes) × (n ≤ length bytes + i) × (n + i ≡ length bytes + length (encoded (take i bytes)))
+
+abbrev μ-loop : tie.MeasureT-loop
+μ-loop bytes n₀ i₀ n i = length bytes - i
+
+is-ascii-requires : tie.Need-is-ascii-requires Inv-loop μ-loop
+is-ascii-requires c κs = search needs
+
+returns : tie.Need-returns Inv-loop μ-loop
+returns c =
+    let k = c .before in
+    sym (ascii-length (now (k .before .before .args .bytes)) (sym (k .is-ascii .ensures) ∙ c .if1 .taken))
+
+loop-holds : tie.Need-loop-holds Inv-loop μ-loop
+unfolding encoded
+loop-holds c = (search needs, search needs, refl)
+
+shared-slice-read-n : tie.Need-shared-slice-read-n Inv-loop μ-loop
+shared-slice-read-n c = search needs
+
+cast-n : tie.Need-cast-n Inv-loop μ-loop
+cast-n c = omega (arith, c .shared-slice-known2 .given (c .before .before .loop .i))
+
+add-n : tie.Need-add-n Inv-loop μ-loop
+add-n c = omega (arith, c .shared-slice-known2 .given (c .before .before .loop .i))
+
+add-i : tie.Need-add-i Inv-loop μ-loop
+add-i c = search needs
+
+loop-less : tie.Need-loop-less Inv-loop μ-loop
+loop-less c = search needs
+
+loop-again : tie.Need-loop-again Inv-loop μ-loop
+loop-again c =
+    let l = c .before .before .loop in let bytes = now (c .before .before .before .before .before .before .args .bytes) in
+    let b = c .shared-slice-known2 .given (l .i) in
+    let size = latin1-size (getD bytes (l .i) 0) (omega arith) in
+    let sum = ap length (encoded-more bytes (l .i) (omega arith)) ∙ length-append (encoded (take (l .i) bytes)) (utf8 (blanked (getD bytes (l .i) 0))) in
+    (omega arith, omega arith, omega arith)
+
+returns-2 : tie.Need-returns-2 Inv-loop μ-loop
+returns-2 c =
+    let l = c .before .loop in let bytes = now (c .before .before .before .before .before .args .bytes) in
+    let whole = ap (λ (s : List ℕ). length (encoded s)) (take-all (l .i) bytes (omega arith)) in
+    omega arith
+
+pub latin1-length-spec : {M : Type 1} → statement M
+latin1-length-spec =
+    tie.close
+    (tie.spec
+    Inv-loop
+    μ-loop
+    is-ascii-requires
+    returns
+    loop-holds
+    shared-slice-read-n
+    cast-n
+    add-n
+    add-i
+    loop-less
+    loop-again
+    returns-2)

@@ -1,0 +1,21 @@
+-- Language codes (01, "Text"). Assumes nothing.
+use Prim.Native.Nat.{ℕ}
+use mathlib.Core.Bool.{Bool, _||_}
+use mathlib.Core.List.{List}
+use lib.Dec.{eqb}
+use lib.ListN.{length}
+use Rattle.text.specs.While.{dropWhileEnd}
+use Rattle.text.specs.Padded.{padded}
+use Rattle.text.specs.declared.language.LanguageCode.{LanguageCode}
+
+-- "zeros and blanks"
+unfoldable pub isPadding : ℕ → Bool
+isPadding b = eqb b 0 || eqb b 32
+
+-- "two characters less trailing zeros and blanks"
+unfoldable pub languageText : List ℕ → List ℕ
+languageText code = dropWhileEnd isPadding code
+
+-- "as bytes, one a character": with their number, zero past them
+unfoldable pub languageOf : List ℕ → LanguageCode
+languageOf code = record { bytes = padded 2 (languageText code); len = length (languageText code) }

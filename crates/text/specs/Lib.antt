@@ -1,0 +1,17 @@
+pub mod While
+pub mod WhileLaws
+pub mod Padded
+pub mod PaddedLaws
+pub mod Refusal
+pub mod String
+pub mod StringLaws
+pub mod Charset
+pub mod CharsetLaws
+pub mod Utf8
+pub mod Utf8Laws
+pub mod Decode
+pub mod DecodeLaws
+pub mod Fixed
+pub mod FixedLaws
+pub mod Language
+pub mod LanguageLaws

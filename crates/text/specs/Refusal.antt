@@ -1,0 +1,10 @@
+-- The numbers of refusals (01, "What the desk gets back") that this layer gives; 0 where nothing is refused.
+use Prim.Native.Nat.{ℕ}
+
+-- "9 | set not held | decoding a present text of set 3 to 6"
+abbrev pub setNotHeld : ℕ
+setNotHeld = 9
+
+-- "10 | short page | decoded text longer than the page lent"
+abbrev pub shortPage : ℕ
+shortPage = 10

@@ -1,0 +1,41 @@
+// White space at the ends of bytes.
+ghost use mathlib.Core.Path.{_≡_};
+ghost use Prim.Native.Nat.{_≤_};
+ghost use lib.ListN.{length, take, drop};
+ghost use Rattle.text.specs.While.{dropWhile, dropWhileEnd};
+ghost use Rattle.text.specs.Fixed.{isWhite};
+
+// Whether a byte is white space: hexadecimal 09-0D, 1C-20, 85, A0.
+pub(crate) fn is_w(b: u8) -> bool
+    ensures { λ r. ⌜ r ≡ isWhite b ⌝ }
+{
+    ((0x09 <= b) & (b <= 0x0D)) | ((0x1C <= b) & (b <= 0x20)) | (b == 0x85) | (b == 0xA0)
+}
+
+// Where the white space at the start ends.
+pub(crate) fn white_start(bytes: &[u8]) -> usize
+    ensures { λ r. ⌜ (r ≤ length (now (bytes .entry))) × (drop r (now (bytes .entry)) ≡ dropWhile isWhite (now (bytes .entry))) ⌝ }
+{
+    let mut i = 0;
+    while i < bytes.len() {
+        if !is_w(bytes[i]) {
+            return i;
+        }
+        i += 1;
+    }
+    i
+}
+
+// Where the white space at the end begins.
+pub(crate) fn white_end(bytes: &[u8]) -> usize
+    ensures { λ r. ⌜ (r ≤ length (now (bytes .entry))) × (take r (now (bytes .entry)) ≡ dropWhileEnd isWhite (now (bytes .entry))) ⌝ }
+{
+    let mut e = bytes.len();
+    while 0 < e {
+        if !is_w(bytes[e - 1]) {
+            return e;
+        }
+        e -= 1;
+    }
+    e
+}
