@@ -1,7 +1,6 @@
 pub mod Alpha
 pub mod AuditCases
 pub mod Bounds
-pub mod Copying
 pub mod Division
 pub mod Fold
 pub mod Halves

@@ -11,3 +11,8 @@ module _ {A : Type 0} where
   -- "fill .. Everything else is unchanged": `old`, with `new` in the place of as many elements from `at` on
   unfoldable pub fill : ℕ → List A → List A → List A
   fill at new old = take at old ++ (new ++ drop (at + length new) old)
+
+-- "as a part of the caller's table": where a part begins in the memory of bytes that it is a part of. (A pointer is a block of memory
+-- and a place in it.)
+unfoldable pub startAt : ℕ × ℕ → ℕ → ℕ × ℕ
+startAt whole at = (whole .0, whole .1 + at)

@@ -1,13 +1,23 @@
 -- Laws of lent memory: what a part of it is, and what stands in a part after a fill. Assumes nothing.
 use Prim.Native.Nat.{ℕ, zero, suc, _+_, _-_, _≤_, _<_, min}
 use native.Mathlib.Omega.{arith}
-use native.Mathlib.Nat.{add-zero}
+use native.Mathlib.Nat.{add-zero, add-comm}
 use mathlib.Core.Path.{_≡_, sym, _∙_, ap}
 use mathlib.Core.List.{List, [], _∷_, _++_, append-assoc}
 use borrow.Rule.Slice.PartMut.{putMid}
 use lib.ListN.{length, take, drop, getD, set, length-append, length-take, length-drop, take-append-drop, drop-of-length-le}
-use lib.Seq.{sets, sets-eq, take-nil, take-take, length-take-le, take-append-le, drop-append-le, drop-append-add, take-append-seam, drop-drop, drop-cons, set-at, take-at, drop-at, getD-take, getD-drop}
-use Rattle.sectors.specs.Fill.{part, fill}
+use lib.Seq.{sets, sets-eq, take-nil, drop-nil, take-take, length-take-le, take-append-le, drop-append-le, drop-append-add, take-append-seam, drop-drop, drop-cons, set-at, take-at, drop-at, getD-take, getD-drop}
+use Rattle.sectors.specs.Fill.{part, fill, startAt}
+
+-- where `&l[at..]` begins, of bytes
+pub slice-start : (whole : ℕ × ℕ) (at : ℕ) → _≡_ {A = ℕ × ℕ} (whole .0, at + whole .1) (startAt whole at)
+unfolding startAt
+slice-start whole at = λ i. (whole .0, add-comm at (whole .1) i)
+
+-- a part at the start begins where the whole does
+pub start-whole : (whole : ℕ × ℕ) → startAt whole 0 ≡ whole
+unfolding startAt
+start-whole whole = λ i. (whole .0, add-zero (whole .1) i)
 
 module _ {A : Type 0} where
   -- what a program lends as `&l[at..at + n]`
@@ -20,9 +30,14 @@ module _ {A : Type 0} where
   unfolding fill
   put-fill at n old new e = rw (drop-drop n at old, ← e)
 
-  pub part-length : (at n : ℕ) (l : List A) → at + n ≤ length l → length (part at n l) ≡ n
+  -- how long a part is
+  pub part-size : (at n : ℕ) (l : List A) → length (part at n l) ≡ min n (length l - at)
   unfolding part
-  part-length at n l h = length-take-le n (drop at l) (rw length-drop (omega arith))
+  part-size at n l = rw (length-take n (drop at l), length-drop at l)
+
+  -- a part inside is as long as asked
+  pub part-length : (at n : ℕ) (l : List A) → at + n ≤ length l → length (part at n l) ≡ n
+  part-length at n l h = omega (arith, part-size at n l)
 
   pub part-at : (at n : ℕ) (l : List A) (i : ℕ) (d : A) → i < n → getD (part at n l) i d ≡ getD l (at + i) d
   unfolding part
@@ -33,20 +48,26 @@ module _ {A : Type 0} where
   unfolding part
   part-past at n l h = rw (drop-of-length-le l h) (take-nil n)
 
+  -- of a list, no more elements than there are
+  pub take-cut : (n : ℕ) (l : List A) → take (min n (length l)) l ≡ take n l
+  take-cut zero l = let e : min 0 (length l) ≡ 0 = omega arith in rw e
+  take-cut (suc n) [] = take-nil (min (suc n) 0)
+  take-cut (suc n) (x ∷ xs) = let e : min (suc n) (suc (length xs)) ≡ suc (min n (length xs)) = omega arith in rw (e, take-cut n xs)
+
   -- a part that runs past the end is what stands before it
   pub part-cut : (at n : ℕ) (l : List A) → part at (min n (length l - at)) l ≡ part at n l
   unfolding part
-  part-cut at n l = rw (← length-drop at l) (take-min n (drop at l))
-    where
-      take-min : (n : ℕ) (l : List A) → take (min n (length l)) l ≡ take n l
-      take-min zero l = let e : min 0 (length l) ≡ 0 = omega arith in rw e
-      take-min (suc n) [] = take-nil (min (suc n) 0)
-      take-min (suc n) (x ∷ xs) = let e : min (suc n) (suc (length xs)) ≡ suc (min n (length xs)) = omega arith in rw (e, take-min n xs)
+  part-cut at n l = rw (← length-drop at l) (take-cut n (drop at l))
 
-  -- how long a part is
-  pub part-size : (at n : ℕ) (l : List A) → length (part at n l) ≡ min n (length l - at)
+  -- and one that begins past the end is one that begins there
+  pub part-from : (at n : ℕ) (l : List A) → part (min at (length l)) n l ≡ part at n l
   unfolding part
-  part-size at n l = rw (length-take n (drop at l), length-drop at l)
+  part-from at n l = ap (λ (r : List A). take n r) (drop-min at l)
+    where
+      drop-min : (n : ℕ) (l : List A) → drop (min n (length l)) l ≡ drop n l
+      drop-min zero l = let e : min 0 (length l) ≡ 0 = omega arith in rw e
+      drop-min (suc n) [] = drop-nil (min (suc n) 0)
+      drop-min (suc n) (x ∷ xs) = let e : min (suc n) (suc (length xs)) ≡ suc (min n (length xs)) = omega arith in rw (e, drop-min n xs)
 
   -- the front of a part
   pub take-part : (at m n : ℕ) (l : List A) → m ≤ n → take m (part at n l) ≡ part at m l

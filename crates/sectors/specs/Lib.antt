@@ -4,6 +4,7 @@ pub mod Bytes
 pub mod BytesLaws
 pub mod Fill
 pub mod FillLaws
+pub mod CopyLaws
 pub mod Refusal
 pub mod Number
 pub mod NumberLaws

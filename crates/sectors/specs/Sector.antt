@@ -21,6 +21,10 @@ unfoldable pub sectorData : ℕ → List ℕ → ℕ → List ℕ
 sectorData format image lsn =
     cond (readable format (length image) lsn 1) (part (lsn * storedSize format + dataOffset format) sectorSize image) []
 
+-- where they begin in an image of so many bytes; at its start if there are none
+unfoldable pub dataStart : ℕ → ℕ → ℕ → ℕ
+dataStart format bytes lsn = cond (readable format bytes lsn 1) (lsn * storedSize format + dataOffset format) 0
+
 -- "A copy's bytes are its sectors' data bytes": those of `count` sectors from an address on, one after another.
 unfoldable pub runData : ℕ → List ℕ → ℕ → ℕ → List ℕ
 runData format image lsn zero = []

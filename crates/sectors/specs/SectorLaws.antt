@@ -12,7 +12,7 @@ use Rattle.sectors.specs.Fill.{part}
 use Rattle.sectors.specs.FillLaws.{part-length, part-at}
 use Rattle.sectors.specs.declared.sector.Layout.{Layout}
 use Rattle.sectors.specs.Format.{foreign, layouts, layoutOf, storedSize, dataOffset, sectorSize}
-use Rattle.sectors.specs.Sector.{sectorCount, readable, sectorData, runData}
+use Rattle.sectors.specs.Sector.{sectorCount, readable, sectorData, dataStart, runData}
 
 -- ---- formats
 
@@ -183,3 +183,13 @@ sector-ext format a b lsn ha hb each =
     (λ i q.
     let small : i < sectorSize = omega arith in
     sector-byte format a lsn i ha small ∙ each i small ∙ sym (sector-byte format b lsn i hb small))
+
+-- where a sector's data begin
+pub data-starts : (format bytes lsn : ℕ) → readable format bytes lsn 1 ≡ true → dataStart format bytes lsn ≡ lsn * storedSize format + dataOffset format
+unfolding dataStart
+data-starts format bytes lsn there = simp there
+
+-- without data: at the image's start
+pub data-missing : (format bytes lsn : ℕ) → readable format bytes lsn 1 ≡ false → dataStart format bytes lsn ≡ 0
+unfolding dataStart
+data-missing format bytes lsn missing = simp missing

@@ -2,10 +2,11 @@
 ghost use mathlib.Core.Path.{_≡_};
 ghost use mathlib.Core.Bool.{true};
 ghost use Prim.Native.Nat.{_+_, _*_, _≤_};
+ghost use denote.Ref.{ptr};
 ghost use lib.ListN.{length};
-ghost use Rattle.sectors.specs.Fill.{part};
-ghost use Rattle.sectors.specs.Format.{foreign, layoutOf, storedSize};
-ghost use Rattle.sectors.specs.Sector.{sectorCount, readable, sectorData};
+ghost use Rattle.sectors.specs.Fill.{part, startAt};
+ghost use Rattle.sectors.specs.Format.{foreign, layoutOf, storedSize, dataOffset};
+ghost use Rattle.sectors.specs.Sector.{sectorCount, readable, sectorData, dataStart};
 
 // Bytes of data in a sector.
 pub const SECTOR_SIZE: usize = 2048;
@@ -84,7 +85,8 @@ pub(crate) fn stored_part<'a>(
     size: usize,
 ) -> &'a [u8]
     requires { ⌜ (readable format (length (now image)) n 1 ≡ true) × (offset + size ≤ storedSize format) ⌝ }
-    ensures { λ r. ⌜ now r ≡ part (n * storedSize format + offset) size (now (image .entry)) ⌝ }
+    ensures bytes { λ r. ⌜ now r ≡ part (n * storedSize format + offset) size (now (image .entry)) ⌝ }
+    ensures placed { λ r. ⌜ ptr r ≡ startAt (ptr (image .entry)) (n * storedSize format + offset) ⌝ }
 {
     let layout = layout_of(format);
     let start = n * layout.stored + offset;
@@ -95,15 +97,17 @@ pub(crate) fn stored_part<'a>(
 // The data bytes of a sector that is in the image, as a part of it.
 pub(crate) fn stored_data<'a>(format: u32, image: &'a [u8], n: usize) -> &'a [u8]
     requires { ⌜ readable format (length (now image)) n 1 ≡ true ⌝ }
-    ensures { λ r. ⌜ now r ≡ sectorData format (now (image .entry)) n ⌝ }
+    ensures bytes { λ r. ⌜ now r ≡ sectorData format (now (image .entry)) n ⌝ }
+    ensures placed { λ r. ⌜ ptr r ≡ startAt (ptr (image .entry)) (n * storedSize format + dataOffset format) ⌝ }
 {
     let layout = layout_of(format);
     stored_part(format, image, n, layout.offset, SECTOR_SIZE)
 }
 
-// The data bytes of a sector, as a part of the image; empty if it is not in the image.
+// The data bytes of a sector, as a part of the image; empty, at its start, if it is not in the image.
 pub fn sector_data<'a>(format: u32, image: &'a [u8], lsn: Lsn) -> &'a [u8]
-    ensures { λ r. ⌜ now r ≡ sectorData format (now (image .entry)) (lsn .0) ⌝ }
+    ensures bytes { λ r. ⌜ now r ≡ sectorData format (now (image .entry)) (lsn .0) ⌝ }
+    ensures placed { λ r. ⌜ ptr r ≡ startAt (ptr (image .entry)) (dataStart format (length (now (image .entry))) (lsn .0)) ⌝ }
 {
     if contains(format, image.len(), lsn, 1) {
         return stored_data(format, image, lsn.0 as usize);

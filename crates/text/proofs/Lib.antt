@@ -1,6 +1,7 @@
-pub mod Codes
+pub mod Ascii
+pub mod LanguageCases
 pub mod Padding
 pub mod Stores
+pub mod Tests
 pub mod Trimming
-pub mod Until
 pub mod Writing

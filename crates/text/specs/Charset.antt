@@ -12,10 +12,10 @@ setOf code = bitAnd code 7
 unfoldable pub isMapped : ℕ → Bool
 isMapped n = leb 3 n && leb n 6
 
--- "all others Latin-1": the number that stands for it here
+-- the number that stands for Latin-1 in an answer
 abbrev pub latin1 : ℕ
 latin1 = 0
 
--- the set of a code: 3 to 6, or Latin-1
+-- "3 to 6 are the four tables .., all others Latin-1"
 unfoldable pub charsetOf : ℕ → ℕ
 charsetOf code = cond (isMapped (setOf code)) (setOf code) latin1

@@ -1,11 +1,18 @@
 -- Laws of character sets. Assumes nothing.
-use mathlib.Core.Path.{_≡_, sym, _∙_}
-use mathlib.Core.Bool.{true, false, and-eq-true-iff}
-use Prim.Native.Nat.{ℕ}
+use mathlib.Core.Path.{_≡_, refl, sym, _∙_}
+use mathlib.Core.Bool.{Bool, true, false, and-eq-true-iff}
+use Prim.Native.Nat.{ℕ, _≤_}
 use native.Mathlib.Omega.{arith}
 use borrow.Author.Tests.{leb-true}
 use lib.Dec.{leb}
 use Rattle.text.specs.Charset.{setOf, isMapped, latin1, charsetOf}
+
+-- a mapped set is one of 3 to 6
+pub mapped-range : (code : ℕ) → isMapped (setOf code) ≡ true → (3 ≤ setOf code) × (setOf code ≤ 6)
+unfolding isMapped
+mapped-range code e =
+    let both = and-eq-true-iff (leb 3 (setOf code)) (leb (setOf code) 6) .0 e in
+    (leb-true 3 (setOf code) (both .0), leb-true (setOf code) 6 (both .1))
 
 -- a code of set 3 to 6 names that set
 pub charset-mapped : (code : ℕ) → isMapped (setOf code) ≡ true → charsetOf code ≡ setOf code
@@ -17,9 +24,17 @@ pub charset-latin1 : (code : ℕ) → isMapped (setOf code) ≡ false → charse
 unfolding charsetOf
 charset-latin1 code e = simp e
 
--- and no code of set 3 to 6 does
-pub mapped-not-latin1 : (code : ℕ) → isMapped (setOf code) ≡ true → charsetOf code ≡ latin1 → ⊥
-unfolding isMapped
-mapped-not-latin1 code e z =
-    let low = leb-true 3 (setOf code) (and-eq-true-iff (leb 3 (setOf code)) (leb (setOf code) 6) .0 e .0) in
-    omega (arith, sym (charset-mapped code e) ∙ z)
+-- so Latin-1 is named by exactly those others
+pub latin1-unmapped : (code : ℕ) → charsetOf code ≡ latin1 → isMapped (setOf code) ≡ false
+latin1-unmapped code e = go (isMapped (setOf code)) refl
+  where
+    go : (t : Bool) → isMapped (setOf code) ≡ t → t ≡ false
+    go true m = absurd (omega (arith, mapped-range code m .0, sym (charset-mapped code m) ∙ e))
+    go false m = refl
+
+pub not-latin1-mapped : (code : ℕ) → (charsetOf code ≡ latin1 → ⊥) → isMapped (setOf code) ≡ true
+not-latin1-mapped code other = go (isMapped (setOf code)) refl
+  where
+    go : (t : Bool) → isMapped (setOf code) ≡ t → t ≡ true
+    go true m = refl
+    go false m = absurd (other (charset-latin1 code m))

@@ -2,41 +2,49 @@
 use Prim.Native.Nat.{ℕ}
 use mathlib.Core.Bool.{cond}
 use mathlib.Core.List.{List, []}
-use lib.Dec.{eqb, leb}
+use lib.Dec.{leb}
 use lib.ListN.{length}
 use Rattle.sectors.specs.Fill.{fill}
 use Rattle.text.specs.Refusal.{setNotHeld, shortPage}
 use Rattle.text.specs.String.{present}
-use Rattle.text.specs.Charset.{charsetOf, latin1}
+use Rattle.text.specs.Charset.{setOf, isMapped}
 use Rattle.text.specs.Utf8.{encoded}
 use Rattle.text.specs.declared.decode.DecodeAnswer.{DecodeAnswer}
 
--- What a string gives, however long the page: a refusal, or the bytes of its text.
+-- What a string gives, however long the page: a refusal, or its code points.
 pub data Decoded : Type 0 where
   refused : ℕ → Decoded
   gives : List ℕ → Decoded
 
--- "An absent text answers length 0 in every set and never meets 9." "decoding a present text of set 3 to 6": 9. "Latin-1 becomes
--- UTF-8": each byte is its own code point.
-unfoldable pub textOf : List ℕ → ℕ → Decoded
-textOf bytes code =
-    cond (present bytes) (cond (eqb (charsetOf code) latin1) (gives (encoded bytes)) (refused setNotHeld)) (gives [])
+-- "Latin-1": each byte is its own code point
+unfoldable pub latin1Points : List ℕ → List ℕ
+latin1Points bytes = bytes
 
--- "10 | short page | decoded text longer than the page lent"; 9 comes before it
+-- "An absent text answers length 0 in every set and never meets 9." "decoding a present text of set 3 to 6": 9. "all others Latin-1"
+unfoldable pub pointsOf : List ℕ → ℕ → Decoded
+pointsOf bytes code = cond (present bytes) (cond (isMapped (setOf code)) (refused setNotHeld) (gives (latin1Points bytes))) (gives [])
+
+-- the answer of a refusal, and of a text of so many bytes
+abbrev pub refusing : ℕ → DecodeAnswer
+refusing number = record { refusal = number; len = 0 }
+
+abbrev pub giving : ℕ → DecodeAnswer
+giving n = record { refusal = 0; len = n }
+
+-- "10 | short page | decoded text longer than the page lent": 10 of a page of so many bytes, and only if nothing else is refused
 unfoldable pub answerIn : ℕ → Decoded → DecodeAnswer
-answerIn size (refused number) = record { refusal = number; length = 0 }
-answerIn size (gives text) =
-    cond (leb (length text) size) (record { refusal = 0; length = length text }) (record { refusal = shortPage; length = 0 })
+answerIn size (refused number) = refusing number
+answerIn size (gives points) = cond (leb (length (encoded points)) size) (giving (length (encoded points))) (refusing shortPage)
 
 -- "Decoding fills the start of the page, the rest unchanged." "Every refusal .. changes no lent memory."
 unfoldable pub pageWith : Decoded → List ℕ → List ℕ
 pageWith (refused number) page = page
-pageWith (gives text) page = cond (leb (length text) (length page)) (fill 0 text page) page
+pageWith (gives points) page = cond (leb (length (encoded points)) (length page)) (fill 0 (encoded points) page) page
 
 -- the answer of decoding into a page of so many bytes
 unfoldable pub decodeOf : List ℕ → ℕ → ℕ → DecodeAnswer
-decodeOf bytes code size = answerIn size (textOf bytes code)
+decodeOf bytes code size = answerIn size (pointsOf bytes code)
 
 -- the page after it
 unfoldable pub decodeInto : List ℕ → ℕ → List ℕ → List ℕ
-decodeInto bytes code page = pageWith (textOf bytes code) page
+decodeInto bytes code page = pageWith (pointsOf bytes code) page

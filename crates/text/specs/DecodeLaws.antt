@@ -4,162 +4,183 @@ use mathlib.Core.Bool.{Bool, true, false}
 use mathlib.Core.List.{List, [], _∷_}
 use Prim.Native.Nat.{ℕ, zero, suc, _*_, _≤_, _<_}
 use native.Mathlib.Omega.{arith}
-use borrow.Author.Tests.{le-ltb, lt-ltb, le-leb, lt-leb, eq-eqb, ne-eqb, leb-true, leb-false, eqb-true, eqb-false}
-use lib.Dec.{leb, eqb}
+use borrow.Author.Tests.{le-ltb, lt-ltb, le-leb, lt-leb, leb-true, leb-false}
+use lib.Dec.{leb}
 use lib.ListN.{length, getD}
 use Rattle.sectors.specs.Fill.{fill}
 use Rattle.sectors.specs.FillLaws.{fill-none, length-fill}
 use Rattle.text.specs.Refusal.{setNotHeld, shortPage}
 use Rattle.text.specs.String.{present}
-use Rattle.text.specs.Charset.{charsetOf, latin1}
+use Rattle.text.specs.Charset.{setOf, isMapped}
 use Rattle.text.specs.Utf8.{encoded}
-use Rattle.text.specs.Utf8Laws.{latin1-length}
-use Rattle.text.specs.Decode.{Decoded, refused, gives, textOf, answerIn, pageWith, decodeOf, decodeInto}
+use Rattle.text.specs.Utf8Laws.{encoded-none, latin1-length}
+use Rattle.text.specs.Decode.{Decoded, refused, gives, latin1Points, pointsOf, refusing, giving, answerIn, pageWith, decodeOf, decodeInto}
 use Rattle.text.specs.declared.decode.DecodeAnswer.{DecodeAnswer}
 
--- a refusal of decoding, and a text of so many bytes
-abbrev refusing : ℕ → DecodeAnswer
-refusing number = record { refusal = number; length = 0 }
+-- code points whose text is too long for a page, and such as fit
+module _ (points : List ℕ) where
+  pub answer-short : (size : ℕ) → size < length (encoded points) → answerIn size (gives points) ≡ refusing shortPage
+  unfolding answerIn
+  answer-short size h = simp (lt-leb (length (encoded points)) size h)
 
-abbrev giving : ℕ → DecodeAnswer
-giving n = record { refusal = 0; length = n }
+  pub answer-fits : (size : ℕ) → length (encoded points) ≤ size → answerIn size (gives points) ≡ giving (length (encoded points))
+  unfolding answerIn
+  answer-fits size h = simp (le-leb (length (encoded points)) size h)
 
--- a page that is too short, and one that is not
-answer-short : (text : List ℕ) (size : ℕ) → size < length text → answerIn size (gives text) ≡ refusing shortPage
-unfolding answerIn
-answer-short text size h = simp (lt-leb (length text) size h)
+  pub page-short : (page : List ℕ) → length page < length (encoded points) → pageWith (gives points) page ≡ page
+  unfolding pageWith
+  page-short page h = simp (lt-leb (length (encoded points)) (length page) h)
 
-answer-fits : (text : List ℕ) (size : ℕ) → length text ≤ size → answerIn size (gives text) ≡ giving (length text)
-unfolding answerIn
-answer-fits text size h = simp (le-leb (length text) size h)
-
-page-short : (text page : List ℕ) → length page < length text → pageWith (gives text) page ≡ page
-unfolding pageWith
-page-short text page h = simp (lt-leb (length text) (length page) h)
-
-page-fits : (text page : List ℕ) → length text ≤ length page → pageWith (gives text) page ≡ fill 0 text page
-unfolding pageWith
-page-fits text page h = simp (le-leb (length text) (length page) h)
+  pub page-fits : (page : List ℕ) → length (encoded points) ≤ length page → pageWith (gives points) page ≡ fill 0 (encoded points) page
+  unfolding pageWith
+  page-fits page h = simp (le-leb (length (encoded points)) (length page) h)
 
 module _ (bytes : List ℕ) (code : ℕ) where
-  module _ (absent : length bytes ≡ 0) where
-    text-absent : textOf bytes code ≡ gives []
-    unfolding textOf present
-    text-absent = simp (le-ltb 0 (length bytes) (omega arith))
+  -- an absent text has no code points
+  pub points-absent : length bytes ≡ 0 → pointsOf bytes code ≡ gives []
+  unfolding pointsOf present
+  points-absent none = simp (le-ltb 0 (length bytes) (omega arith))
 
-    -- "An absent text answers length 0 in every set and never meets 9."
-    pub decode-absent : (size : ℕ) → decodeOf bytes code size ≡ giving 0
-    unfolding decodeOf
-    decode-absent size = ap (answerIn size) text-absent ∙ answer-fits [] size (omega arith)
+  -- a present one of set 3 to 6 is refused
+  pub points-mapped : 0 < length bytes → isMapped (setOf code) ≡ true → pointsOf bytes code ≡ refused setNotHeld
+  unfolding pointsOf present
+  points-mapped is-present mapped = simp (lt-ltb 0 (length bytes) is-present, mapped)
 
-    pub into-absent : (page : List ℕ) → decodeInto bytes code page ≡ page
-    unfolding decodeInto
-    into-absent page = ap (λ (t : Decoded). pageWith t page) text-absent ∙ page-fits [] page (omega arith) ∙ fill-none 0 page
+  -- in Latin-1 each byte is its own code point
+  pub points-latin1 : isMapped (setOf code) ≡ false → pointsOf bytes code ≡ gives bytes
+  unfolding pointsOf present latin1Points
+  points-latin1 e = go bytes
+    where
+      go : (bytes : List ℕ) → pointsOf bytes code ≡ gives bytes
+      go [] = refl
+      go (x ∷ xs) = simp (lt-ltb 0 (length (x ∷ xs)) (omega arith), e)
 
-  module _ (is-present : 0 < length bytes) (mapped : charsetOf code ≡ latin1 → ⊥) where
-    text-mapped : textOf bytes code ≡ refused setNotHeld
-    unfolding textOf present
-    text-mapped = simp (lt-ltb 0 (length bytes) is-present, ne-eqb (charsetOf code) latin1 mapped)
-
-    -- "9 | set not held | decoding a present text of set 3 to 6", whatever the page
-    pub decode-mapped : (size : ℕ) → decodeOf bytes code size ≡ refusing setNotHeld
+  -- what is refused answers its number, and leaves the page
+  module _ (number : ℕ) (e : pointsOf bytes code ≡ refused number) where
+    pub decode-refused : (size : ℕ) → decodeOf bytes code size ≡ refusing number
     unfolding decodeOf answerIn
-    decode-mapped size = ap (answerIn size) text-mapped
+    decode-refused size = ap (answerIn size) e
 
-    pub into-mapped : (page : List ℕ) → decodeInto bytes code page ≡ page
+    pub into-refused : (page : List ℕ) → decodeInto bytes code page ≡ page
     unfolding decodeInto pageWith
-    into-mapped page = ap (λ (t : Decoded). pageWith t page) text-mapped
+    into-refused page = ap (λ (d : Decoded). pageWith d page) e
 
-  module _ (is-latin1 : charsetOf code ≡ latin1) where
-    text-latin1 : textOf bytes code ≡ gives (encoded bytes)
-    unfolding textOf present encoded
-    text-latin1 = go bytes
-      where
-        go : (bytes : List ℕ) → textOf bytes code ≡ gives (encoded bytes)
-        go [] = refl
-        go (x ∷ xs) = simp (lt-ltb 0 (length (x ∷ xs)) (omega arith), eq-eqb (charsetOf code) latin1 is-latin1)
-
-    -- "10 | short page | decoded text longer than the page lent"
-    pub decode-short : (size : ℕ) → size < length (encoded bytes) → decodeOf bytes code size ≡ refusing shortPage
+  -- code points are put into the page
+  module _ (points : List ℕ) (e : pointsOf bytes code ≡ gives points) where
+    pub decode-gives : (size : ℕ) → decodeOf bytes code size ≡ answerIn size (gives points)
     unfolding decodeOf
-    decode-short size h = ap (answerIn size) text-latin1 ∙ answer-short (encoded bytes) size h
+    decode-gives size = ap (answerIn size) e
 
-    pub into-short : (page : List ℕ) → length page < length (encoded bytes) → decodeInto bytes code page ≡ page
+    pub into-gives : (page : List ℕ) → decodeInto bytes code page ≡ pageWith (gives points) page
     unfolding decodeInto
-    into-short page h = ap (λ (t : Decoded). pageWith t page) text-latin1 ∙ page-short (encoded bytes) page h
+    into-gives page = ap (λ (d : Decoded). pageWith d page) e
 
-    -- any other page holds the text, at its start
-    pub decode-fits : (size : ℕ) → length (encoded bytes) ≤ size → decodeOf bytes code size ≡ giving (length (encoded bytes))
-    unfolding decodeOf
-    decode-fits size h = ap (answerIn size) text-latin1 ∙ answer-fits (encoded bytes) size h
+  -- "An absent text answers length 0 in every set and never meets 9.": and never 10
+  pub decode-absent : length bytes ≡ 0 → (size : ℕ) → decodeOf bytes code size ≡ giving 0
+  decode-absent none size =
+      let n = ap length encoded-none in
+      decode-gives [] (points-absent none) size ∙ answer-fits [] size (omega arith) ∙ ap giving n
 
-    pub into-fits : (page : List ℕ) → length (encoded bytes) ≤ length page → decodeInto bytes code page ≡ fill 0 (encoded bytes) page
-    unfolding decodeInto
-    into-fits page h = ap (λ (t : Decoded). pageWith t page) text-latin1 ∙ page-fits (encoded bytes) page h
+  pub into-absent : length bytes ≡ 0 → (page : List ℕ) → decodeInto bytes code page ≡ page
+  into-absent none page =
+      let n = ap length encoded-none in
+      into-gives [] (points-absent none) page ∙ page-fits [] page (omega arith) ∙ ap (λ (t : List ℕ). fill 0 t page) encoded-none ∙ fill-none 0 page
 
-  -- The four cases of decoding into a page of so many bytes.
+  -- The cases of decoding into a page of so many bytes.
   pub data Case (size : ℕ) : Type 0 where
-    absent : length bytes ≡ 0 → Case size
-    not-held : 0 < length bytes → (charsetOf code ≡ latin1 → ⊥) → Case size
-    too-long : charsetOf code ≡ latin1 → size < length (encoded bytes) → Case size
-    fitting : charsetOf code ≡ latin1 → length (encoded bytes) ≤ size → Case size
+    is-refused : (number : ℕ) → pointsOf bytes code ≡ refused number → Case size
+    too-long : (points : List ℕ) → pointsOf bytes code ≡ gives points → size < length (encoded points) → Case size
+    fitting : (points : List ℕ) → pointsOf bytes code ≡ gives points → length (encoded points) ≤ size → Case size
 
   -- one of them holds
   pub decode-case : (size : ℕ) → Case size
-  decode-case size = by-bytes (length bytes) refl
+  decode-case size = by-points (pointsOf bytes code) refl
     where
-      by-page : charsetOf code ≡ latin1 → (t : Bool) → leb (length (encoded bytes)) size ≡ t → Case size
-      by-page held true e = fitting held (leb-true (length (encoded bytes)) size e)
-      by-page held false e = too-long held (leb-false (length (encoded bytes)) size e)
+      by-page : (points : List ℕ) → pointsOf bytes code ≡ gives points → (t : Bool) → leb (length (encoded points)) size ≡ t → Case size
+      by-page points e true f = fitting points e (leb-true (length (encoded points)) size f)
+      by-page points e false f = too-long points e (leb-false (length (encoded points)) size f)
 
-      by-set : 0 < length bytes → (t : Bool) → eqb (charsetOf code) latin1 ≡ t → Case size
-      by-set nonempty true e = by-page (eqb-true (charsetOf code) latin1 e) (leb (length (encoded bytes)) size) refl
-      by-set nonempty false e = not-held nonempty (eqb-false (charsetOf code) latin1 e)
+      by-points : (d : Decoded) → pointsOf bytes code ≡ d → Case size
+      by-points (refused number) e = is-refused number e
+      by-points (gives points) e = by-page points e (leb (length (encoded points)) size) refl
 
-      by-bytes : (n : ℕ) → length bytes ≡ n → Case size
-      by-bytes zero e = absent e
-      by-bytes (suc n) e = by-set (omega arith) (eqb (charsetOf code) latin1) refl
-
-  -- 9 comes exactly for a present text of another set than Latin-1
-  pub nine-only : (size : ℕ) → decodeOf bytes code size .refusal ≡ setNotHeld → (0 < length bytes) × (charsetOf code ≡ latin1 → ⊥)
-  nine-only size e = go (decode-case size)
+  -- a text is no longer than its page
+  pub decode-bound : (size : ℕ) → decodeOf bytes code size .len ≤ size
+  decode-bound size = go (decode-case size)
     where
-      go : Case size → (0 < length bytes) × (charsetOf code ≡ latin1 → ⊥)
-      go (absent none) = absurd (omega (arith, sym e ∙ ap (λ (a : DecodeAnswer). a .refusal) (decode-absent none size)))
-      go (not-held present mapped) = (present, mapped)
-      go (too-long held long) = absurd (omega (arith, sym e ∙ ap (λ (a : DecodeAnswer). a .refusal) (decode-short held size long)))
-      go (fitting held fits) = absurd (omega (arith, sym e ∙ ap (λ (a : DecodeAnswer). a .refusal) (decode-fits held size fits)))
-
-  -- 10 exactly for a text that is longer than the page
-  pub ten-only : (size : ℕ) → decodeOf bytes code size .refusal ≡ shortPage → (charsetOf code ≡ latin1) × (size < length (encoded bytes))
-  ten-only size e = go (decode-case size)
-    where
-      go : Case size → (charsetOf code ≡ latin1) × (size < length (encoded bytes))
-      go (absent none) = absurd (omega (arith, sym e ∙ ap (λ (a : DecodeAnswer). a .refusal) (decode-absent none size)))
-      go (not-held present mapped) = absurd (omega (arith, sym e ∙ ap (λ (a : DecodeAnswer). a .refusal) (decode-mapped present mapped size)))
-      go (too-long held long) = (held, long)
-      go (fitting held fits) = absurd (omega (arith, sym e ∙ ap (λ (a : DecodeAnswer). a .refusal) (decode-fits held size fits)))
+      go : Case size → decodeOf bytes code size .len ≤ size
+      go (is-refused number e) = omega (arith, ap (λ (a : DecodeAnswer). a .len) (decode-refused number e size))
+      go (too-long points e h) = omega (arith, ap (λ (a : DecodeAnswer). a .len) (decode-gives points e size ∙ answer-short points size h))
+      go (fitting points e h) = omega (arith, ap (λ (a : DecodeAnswer). a .len) (decode-gives points e size ∙ answer-fits points size h))
 
   -- a page keeps its length
   pub into-length : (page : List ℕ) → length (decodeInto bytes code page) ≡ length page
   into-length page = go (decode-case (length page))
     where
       go : Case (length page) → length (decodeInto bytes code page) ≡ length page
-      go (absent none) = ap length (into-absent none page)
-      go (not-held present mapped) = ap length (into-mapped present mapped page)
-      go (too-long held long) = ap length (into-short held page long)
-      go (fitting held fits) = ap length (into-fits held page fits) ∙ length-fill 0 (encoded bytes) page (omega arith)
+      go (is-refused number e) = ap length (into-refused number e page)
+      go (too-long points e h) = ap length (into-gives points e page ∙ page-short points page h)
+      go (fitting points e h) = ap length (into-gives points e page ∙ page-fits points page h) ∙ length-fill 0 (encoded points) page (omega arith)
 
   -- "Every refusal .. changes no lent memory."
-  pub refused-unchanged : (page : List ℕ) → (decodeOf bytes code (length page) .refusal ≡ 0 → ⊥) → decodeInto bytes code page ≡ page
-  refused-unchanged page refuses = go (decode-case (length page))
+  pub into-leaves : (page : List ℕ) → (decodeOf bytes code (length page) .refusal ≡ 0 → ⊥) → decodeInto bytes code page ≡ page
+  into-leaves page refuses = go (decode-case (length page))
     where
       go : Case (length page) → decodeInto bytes code page ≡ page
-      go (absent none) = into-absent none page
-      go (not-held present mapped) = into-mapped present mapped page
-      go (too-long held long) = into-short held page long
-      go (fitting held fits) = absurd (refuses (ap (λ (a : DecodeAnswer). a .refusal) (decode-fits held (length page) fits)))
+      go (is-refused number e) = into-refused number e page
+      go (too-long points e h) = into-gives points e page ∙ page-short points page h
+      go (fitting points e h) =
+          absurd (refuses (ap (λ (a : DecodeAnswer). a .refusal) (decode-gives points e (length page) ∙ answer-fits points (length page) h)))
+
+  -- only a present text of set 3 to 6 is refused before the page is looked at
+  points-refused : (number : ℕ) → pointsOf bytes code ≡ refused number → (0 < length bytes) × (isMapped (setOf code) ≡ true)
+  points-refused number e = by-bytes (length bytes) refl
+    where
+      number-of : Decoded → ℕ
+      number-of (refused n) = suc n
+      number-of (gives points) = zero
+
+      by-set : 0 < length bytes → (t : Bool) → isMapped (setOf code) ≡ t → (0 < length bytes) × (isMapped (setOf code) ≡ true)
+      by-set nonempty true m = (nonempty, m)
+      by-set nonempty false m = absurd (omega (arith, ap number-of (sym e ∙ points-latin1 m)))
+
+      by-bytes : (n : ℕ) → length bytes ≡ n → (0 < length bytes) × (isMapped (setOf code) ≡ true)
+      by-bytes zero z = absurd (omega (arith, ap number-of (sym e ∙ points-absent z)))
+      by-bytes (suc n) z = by-set (omega arith) (isMapped (setOf code)) refl
+
+  -- "9 | set not held | decoding a present text of set 3 to 6", and only then
+  pub nine-comes : 0 < length bytes → isMapped (setOf code) ≡ true → (size : ℕ) → decodeOf bytes code size ≡ refusing setNotHeld
+  nine-comes is-present mapped size = decode-refused setNotHeld (points-mapped is-present mapped) size
+
+  pub nine-only : (size : ℕ) → decodeOf bytes code size .refusal ≡ setNotHeld → (0 < length bytes) × (isMapped (setOf code) ≡ true)
+  nine-only size nine = go (decode-case size)
+    where
+      go : Case size → (0 < length bytes) × (isMapped (setOf code) ≡ true)
+      go (is-refused number e) = points-refused number e
+      go (too-long points e h) = absurd (omega (arith, sym nine ∙ ap (λ (a : DecodeAnswer). a .refusal) (decode-gives points e size ∙ answer-short points size h)))
+      go (fitting points e h) = absurd (omega (arith, sym nine ∙ ap (λ (a : DecodeAnswer). a .refusal) (decode-gives points e size ∙ answer-fits points size h)))
+
+  -- "10 | short page | decoded text longer than the page lent", and only then
+  pub ten-comes : isMapped (setOf code) ≡ false → (size : ℕ) → size < length (encoded bytes) → decodeOf bytes code size ≡ refusing shortPage
+  ten-comes held size h = decode-gives bytes (points-latin1 held) size ∙ answer-short bytes size h
+
+  pub ten-only : (size : ℕ) → decodeOf bytes code size .refusal ≡ shortPage → (isMapped (setOf code) ≡ false) × (size < length (encoded bytes))
+  ten-only size ten = by-set (isMapped (setOf code)) refl
+    where
+      by-page : isMapped (setOf code) ≡ false → (t : Bool) → leb (length (encoded bytes)) size ≡ t → (isMapped (setOf code) ≡ false) × (size < length (encoded bytes))
+      by-page held true e =
+          let fits = decode-gives bytes (points-latin1 held) size ∙ answer-fits bytes size (leb-true (length (encoded bytes)) size e) in
+          absurd (omega (arith, sym ten ∙ ap (λ (a : DecodeAnswer). a .refusal) fits))
+      by-page held false e = (held, leb-false (length (encoded bytes)) size e)
+
+      by-bytes : isMapped (setOf code) ≡ true → (n : ℕ) → length bytes ≡ n → ⊥
+      by-bytes mapped zero z = omega (arith, sym ten ∙ ap (λ (a : DecodeAnswer). a .refusal) (decode-absent z size))
+      by-bytes mapped (suc n) z = omega (arith, sym ten ∙ ap (λ (a : DecodeAnswer). a .refusal) (nine-comes (omega arith) mapped size))
+
+      by-set : (t : Bool) → isMapped (setOf code) ≡ t → (isMapped (setOf code) ≡ false) × (size < length (encoded bytes))
+      by-set true m = absurd (by-bytes m (length bytes) refl)
+      by-set false m = by-page m (leb (length (encoded bytes)) size) refl
 
   -- a page of twice the bytes is never too short
   pub twice-is-enough : (size : ℕ) → ((i : ℕ) → getD bytes i 0 < 256) → 2 * length bytes ≤ size → decodeOf bytes code size .refusal ≡ shortPage → ⊥
-  twice-is-enough size small room e = omega (arith, ten-only size e .1, latin1-length bytes small)
+  twice-is-enough size small room ten = omega (arith, ten-only size ten .1, latin1-length bytes small)

@@ -7,10 +7,13 @@ pub mod String
 pub mod StringLaws
 pub mod Charset
 pub mod CharsetLaws
+pub mod Ascii
 pub mod Utf8
 pub mod Utf8Laws
 pub mod Decode
 pub mod DecodeLaws
+pub mod White
+pub mod WhiteLaws
 pub mod Fixed
 pub mod FixedLaws
 pub mod Language

@@ -8,7 +8,7 @@ use lib.Seq.{take-append-seam}
 use Rattle.text.specs.Padded.{padded}
 
 -- A text held in `size` bytes, of which `len` are the text's.
-pub record Held (size : ℕ) (bytes : List ℕ) (len : ℕ) : Type 0 where
+pub record TextIn (size : ℕ) (bytes : List ℕ) (len : ℕ) : Type 0 where
   pub short : len ≤ size
   pub full : length bytes ≡ size
   pub past : (i : ℕ) → len ≤ i → getD bytes i 0 ≡ 0
@@ -40,7 +40,7 @@ module _ (size : ℕ) (text : List ℕ) where
   padded-full h = let none : size - length text ≡ 0 = omega arith in rw none (append-nil text)
 
   -- a text that fits is held
-  pub padded-held : length text ≤ size → Held size (padded size text) (length text)
+  pub padded-held : length text ≤ size → TextIn size (padded size text) (length text)
   unfolding padded
   padded-held h =
       record {

@@ -1,18 +1,49 @@
 -- Laws of stored strings. Assumes nothing.
 use mathlib.Core.Path.{_≡_, refl, sym, ap, _∙_}
-use mathlib.Core.Bool.{true, not}
-use mathlib.Core.List.{List, []}
-use Prim.Native.Nat.{ℕ, zero, suc, _+_, _-_, _≤_, _<_}
+use mathlib.Core.Bool.{Bool, true, false, not, cond}
+use mathlib.Core.List.{List, [], _∷_}
+use Prim.Native.Nat.{ℕ, suc, _+_, _-_, _≤_, _<_}
 use native.Mathlib.Nat.{add-zero}
 use native.Mathlib.Omega.{arith}
-use borrow.Author.Tests.{eqb-true, eqb-false, not-true, not-false, lt-ltb, ltb-true}
+use borrow.Author.Tests.{eqb-true, eqb-false, eq-eqb, ne-eqb, not-true, not-false, lt-ltb, ltb-true, ltb-false}
 use lib.Dec.{eqb, ltb}
-use lib.ListN.{length, getD, take}
+use lib.ListN.{length, getD, take, List·getD-eq-default}
+use lib.Seq.{take-all}
 use Rattle.sectors.specs.Fill.{part}
 use Rattle.sectors.specs.FillLaws.{part-past, part-size, part-at, take-part}
 use Rattle.text.specs.While.{takeWhile}
 use Rattle.text.specs.WhileLaws.{while-front, while-length, while-passes, while-stops}
-use Rattle.text.specs.String.{untilZero, maxStringBytes, stringAt, present}
+use Rattle.text.specs.String.{nonzero, untilZero, maxStringBytes, stringAt, present}
+
+module _ (b : ℕ) where
+  -- a byte that passes the test is not zero
+  pub nonzero-true : nonzero b ≡ true → b ≡ 0 → ⊥
+  unfolding nonzero
+  nonzero-true e = eqb-false b 0 (not-true (eqb b 0) e)
+
+  -- one that does not pass is zero
+  pub nonzero-false : nonzero b ≡ false → b ≡ 0
+  unfolding nonzero
+  nonzero-false e = eqb-true b 0 (not-false (eqb b 0) e)
+
+  -- one that is not zero passes
+  pub ne-nonzero : (b ≡ 0 → ⊥) → nonzero b ≡ true
+  unfolding nonzero
+  ne-nonzero n = ap not (ne-eqb b 0 n)
+
+  -- a zero does not pass
+  pub eq-nonzero : b ≡ 0 → nonzero b ≡ false
+  unfolding nonzero
+  eq-nonzero z = ap not (eq-eqb b 0 z)
+
+-- a text is present when it has a byte
+pub present-length : (bytes : List ℕ) → present bytes ≡ ltb 0 (length bytes)
+unfolding present
+present-length bytes = refl
+
+-- a text that is not present is empty
+pub absent-empty : (bytes : List ℕ) → present bytes ≡ false → bytes ≡ []
+absent-empty bytes e = sym (take-all 0 bytes (ltb-false 0 (length bytes) (sym (present-length bytes) ∙ e)))
 
 -- of no bytes there are none
 pub until-none : untilZero [] ≡ []
@@ -22,24 +53,39 @@ until-none = refl
 -- the bytes before the first zero stand at the start
 pub until-front : (l : List ℕ) → untilZero l ≡ take (length (untilZero l)) l
 unfolding untilZero
-until-front l = while-front (λ b. not (eqb b 0)) l
+until-front l = while-front nonzero l
 
+-- they are no more than the list's
 pub until-length : (l : List ℕ) → length (untilZero l) ≤ length l
 unfolding untilZero
-until-length l = while-length (λ b. not (eqb b 0)) l
+until-length l = while-length nonzero l
+
+-- their number taken of the list gives them
+pub until-taken : (l : List ℕ) (n : ℕ) → n ≡ length (untilZero l) → (n ≤ length l) × (take n l ≡ untilZero l)
+until-taken l n e = (omega (arith, until-length l), rw e (sym (until-front l)))
 
 -- none of them is zero
 pub until-nonzero : (l : List ℕ) (i : ℕ) → i < length (untilZero l) → getD l i 0 ≡ 0 → ⊥
 unfolding untilZero
-until-nonzero l i h = eqb-false (getD l i 0) 0 (not-true _ (while-passes (λ b. not (eqb b 0)) l i 0 h))
+until-nonzero l i h = nonzero-true (getD l i 0) (while-passes nonzero l i 0 h)
 
 -- and the next is, unless they are all
 pub until-zero : (l : List ℕ) → length (untilZero l) < length l → getD l (length (untilZero l)) 0 ≡ 0
 unfolding untilZero
-until-zero l h = eqb-true _ 0 (not-false _ (while-stops (λ b. not (eqb b 0)) l 0 h))
+until-zero l h = nonzero-false _ (while-stops nonzero l 0 h)
+
+-- there is one exactly when the first byte is not zero (of no bytes the first is 0)
+pub until-present : (l : List ℕ) → present (untilZero l) ≡ nonzero (getD l 0 0)
+unfolding present untilZero takeWhile
+until-present [] = sym (eq-nonzero 0 refl)
+until-present (x ∷ xs) = go (nonzero x)
+  where
+    go : (t : Bool) → ltb 0 (length (cond t (x ∷ takeWhile nonzero xs) [])) ≡ t
+    go true = lt-ltb 0 (suc (length (takeWhile nonzero xs))) (omega arith)
+    go false = refl
 
 module _ (table : List ℕ) (place : ℕ) where
-  -- "empty at or past the end"
+  -- at or past the end of its table it is empty
   pub string-past : length table ≤ place → stringAt table place ≡ []
   unfolding stringAt
   string-past h = ap untilZero (part-past place maxStringBytes table h) ∙ until-none
@@ -76,19 +122,21 @@ module _ (table : List ℕ) (place : ℕ) where
       sym (part-at place maxStringBytes table n 0 short)
       ∙ until-zero (part place maxStringBytes table) (omega (arith, part-size place maxStringBytes table))
 
-  -- "Present means at least one byte.": exactly when its first byte is there and is not zero
-  pub string-present : place < length table → (getD table place 0 ≡ 0 → ⊥) → present (stringAt table place) ≡ true
-  unfolding present
-  string-present inside nonzero = go (length (stringAt table place)) refl
-    where
-      go : (n : ℕ) → length (stringAt table place) ≡ n → ltb 0 (length (stringAt table place)) ≡ true
-      go zero e =
-          let z = string-zero (omega arith) (omega arith) in
-          absurd (nonzero (ap (λ (p : ℕ). getD table p 0) (omega arith) ∙ z))
-      go (suc n) e = lt-ltb 0 (length (stringAt table place)) (omega arith)
+  -- byte i of the string stands i behind its place
+  pub string-at : (i : ℕ) → i < length (stringAt table place) → getD (stringAt table place) i 0 ≡ getD table (place + i) 0
+  string-at i h = ap (λ (s : List ℕ). getD s i 0) string-part ∙ part-at place (length (stringAt table place)) table i 0 h
 
-  pub present-string : present (stringAt table place) ≡ true → (place < length table) × (getD table place 0 ≡ 0 → ⊥)
-  unfolding present
-  present-string e =
-      let nonempty = ltb-true 0 (length (stringAt table place)) e in
-      (omega (arith, string-end), λ z. string-nonzero 0 nonempty (ap (λ (p : ℕ). getD table p 0) (add-zero place) ∙ z))
+  -- what bounds the bytes of the table bounds those of the string
+  pub string-below : (bound : ℕ) → 0 < bound → ((i : ℕ) → getD table i 0 < bound) → (i : ℕ) → getD (stringAt table place) i 0 < bound
+  string-below bound positive below i = go (ltb i (length (stringAt table place))) refl
+    where
+      go : (t : Bool) → ltb i (length (stringAt table place)) ≡ t → getD (stringAt table place) i 0 < bound
+      go true e = rw (string-at i (ltb-true i (length (stringAt table place)) e)) (below (place + i))
+      go false e = rw (List·getD-eq-default (stringAt table place) 0 (ltb-false i (length (stringAt table place)) e)) positive
+
+  -- "Present means at least one byte.": exactly when its first byte is there and is not zero (`getD` is 0 past the end)
+  pub string-present : present (stringAt table place) ≡ nonzero (getD table place 0)
+  unfolding stringAt
+  string-present =
+      until-present (part place maxStringBytes table)
+      ∙ ap nonzero (part-at place maxStringBytes table 0 0 (omega arith) ∙ ap (λ (p : ℕ). getD table p 0) (add-zero place))

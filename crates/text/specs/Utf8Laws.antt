@@ -1,7 +1,7 @@
 -- Laws of UTF-8: what a code point of each size gives, and how long a text can be. Assumes nothing.
 use mathlib.Core.Path.{_≡_, refl, sym, ap, _∙_, subst}
-use mathlib.Core.Bool.{Bool, true, false, _&&_, and-eq-true-iff}
-use mathlib.Core.List.{List, [], _∷_, _++_, map, append-assoc, append-nil}
+use mathlib.Core.Bool.{Bool, true, false}
+use mathlib.Core.List.{List, [], _∷_, _++_, map, flatMap, append-assoc, append-nil}
 use Prim.Native.Nat.{ℕ, _+_, _*_, _/_, _%_, _≤_, _<_}
 use native.Mathlib.Nat.{div-one}
 use native.Mathlib.Numerals.{add-one}
@@ -9,8 +9,7 @@ use native.Mathlib.Omega.{arith}
 use borrow.Author.Tests.{lt-ltb, le-ltb, ltb-true, ltb-false}
 use lib.Dec.{ltb}
 use lib.ListN.{length, getD, take, drop, length-append, take-append-drop}
-use lib.Seq.{take-suc}
-use Rattle.text.specs.Utf8.{groups, marked, utf8, blanked, encoded, isAscii}
+use Rattle.text.specs.Utf8.{groups, marked, utf8, blank, blanked, encoded}
 
 -- one byte below hexadecimal 80
 pub utf8-one : (point : ℕ) → point < 0x80 → utf8 point ≡ point ∷ []
@@ -63,11 +62,12 @@ utf8-alone point =
     by-size (λ (l : List ℕ). length l ≡ 1 → l ≡ point ∷ []) point (λ e. refl) (λ a b e. absurd (omega arith)) (λ a b c e. absurd (omega arith))
     (λ a b c d e. absurd (omega arith))
 
--- a blank is 32, and every other code point from 32 on stays
-pub blanked-low : (point : ℕ) → point < 32 → blanked point ≡ 32
+-- below 32 there is a blank
+pub blanked-low : (point : ℕ) → point < 32 → blanked point ≡ blank
 unfolding blanked
 blanked-low point h = simp (lt-ltb point 32 h)
 
+-- from there on a code point stays
 pub blanked-high : (point : ℕ) → 32 ≤ point → blanked point ≡ point
 unfolding blanked
 blanked-high point h = simp (le-ltb point 32 h)
@@ -81,28 +81,33 @@ blanked-below point bound h k = go (ltb point 32) refl
     go true e = omega (arith, blanked-low point (ltb-true point 32 e))
     go false e = omega (arith, blanked-high point (ltb-false point 32 e))
 
--- of a Latin-1 byte: one byte below 128, two from there on
-pub latin1-size : (byte : ℕ) → byte < 256 → length (utf8 (blanked byte)) ≡ 1 + byte / 128
-latin1-size byte h = go (ltb byte 128) refl
+-- of a Latin-1 byte: one byte below hexadecimal 80, two from there on
+pub latin1-size : (byte : ℕ) → byte < 256 → length (utf8 (blanked byte)) ≡ 1 + byte / 0x80
+latin1-size byte h = go (ltb byte 0x80) refl
   where
-    go : (t : Bool) → ltb byte 128 ≡ t → length (utf8 (blanked byte)) ≡ 1 + byte / 128
+    go : (t : Bool) → ltb byte 0x80 ≡ t → length (utf8 (blanked byte)) ≡ 1 + byte / 0x80
     go true e =
-        let low = ltb-true byte 128 e in
-        ap length (utf8-one (blanked byte) (blanked-below byte 128 low (omega arith))) ∙ omega arith
+        let low = ltb-true byte 0x80 e in
+        ap length (utf8-one (blanked byte) (blanked-below byte 0x80 low (omega arith))) ∙ omega arith
     go false e =
-        let high = ltb-false byte 128 e in
+        let high = ltb-false byte 0x80 e in
         ap (λ (p : ℕ). length (utf8 p)) (blanked-high byte (omega arith)) ∙ ap length (utf8-two byte high (omega arith)) ∙ omega arith
 
 -- the texts of two lists, one after the other
 pub encoded-append : (a b : List ℕ) → encoded (a ++ b) ≡ encoded a ++ encoded b
-unfolding encoded
+unfolding encoded flatMap
 encoded-append [] b = refl
 encoded-append (x ∷ xs) b = rw (encoded-append xs b) (sym (append-assoc (utf8 (blanked x)) (encoded xs) (encoded b)))
 
+-- of no code points there is no text
+pub encoded-none : encoded [] ≡ []
+unfolding encoded flatMap
+encoded-none = refl
+
 -- one code point more
-pub encoded-more : (l : List ℕ) (i : ℕ) → i < length l → encoded (take (i + 1) l) ≡ encoded (take i l) ++ utf8 (blanked (getD l i 0))
-unfolding encoded
-encoded-more l i h = rw (add-one, take-suc l i 0, encoded-append (take i l) (getD l i 0 ∷ []), append-nil (utf8 (blanked (getD l i 0))))
+pub encoded-snoc : (points : List ℕ) (point : ℕ) → encoded (points ++ (point ∷ [])) ≡ encoded points ++ utf8 (blanked point)
+unfolding encoded flatMap
+encoded-snoc points point = encoded-append points (point ∷ []) ∙ ap (λ (t : List ℕ). encoded points ++ t) (append-nil (utf8 (blanked point)))
 
 -- the front of a text is no longer than the whole
 pub encoded-front : (l : List ℕ) (i : ℕ) → length (encoded (take i l)) ≤ length (encoded l)
@@ -113,7 +118,7 @@ encoded-front l i =
 
 -- "any code points at most four bytes each", and at least one
 pub encoded-length : (points : List ℕ) → (length points ≤ length (encoded points)) × (length (encoded points) ≤ 4 * length points)
-unfolding encoded
+unfolding encoded flatMap
 encoded-length [] = (omega arith, omega arith)
 encoded-length (x ∷ xs) =
     let size = utf8-length (blanked x) in
@@ -123,7 +128,7 @@ encoded-length (x ∷ xs) =
 
 -- Latin-1 at most two bytes each
 pub latin1-length : (bytes : List ℕ) → ((i : ℕ) → getD bytes i 0 < 256) → length (encoded bytes) ≤ 2 * length bytes
-unfolding encoded
+unfolding encoded flatMap
 latin1-length [] small = omega arith
 latin1-length (x ∷ xs) small =
     let size = latin1-size x (small 0) in
@@ -134,37 +139,10 @@ latin1-length (x ∷ xs) small =
 
 -- a text of as many bytes as code points has each as a byte
 pub encoded-same : (points : List ℕ) → length (encoded points) ≡ length points → encoded points ≡ map blanked points
-unfolding encoded
+unfolding encoded flatMap
 encoded-same [] e = refl
 encoded-same (x ∷ xs) e =
     let size = utf8-length (blanked x) in
     let rest = encoded-length xs in
     let sum = length-append (utf8 (blanked x)) (encoded xs) in
     rw (utf8-alone (blanked x) (omega arith)) (ap (λ (l : List ℕ). blanked x ∷ l) (encoded-same xs (omega arith)))
-
--- ASCII has
-pub ascii-length : (points : List ℕ) → isAscii points ≡ true → length (encoded points) ≡ length points
-unfolding encoded isAscii
-ascii-length [] e = refl
-ascii-length (x ∷ xs) e =
-    let both = and-eq-true-iff (ltb x 128) (isAscii xs) .0 e in
-    let size = ap length (utf8-one (blanked x) (blanked-below x 128 (ltb-true x 128 (both .0)) (omega arith))) in
-    let sum = length-append (utf8 (blanked x)) (encoded xs) in
-    omega (arith, ascii-length xs (both .1))
-
--- one code point more
-pub ascii-more : (l : List ℕ) (i : ℕ) → i < length l → isAscii (take (i + 1) l) ≡ (isAscii (take i l) && ltb (getD l i 0) 128)
-unfolding isAscii
-ascii-more l i h = rw (add-one, take-suc l i 0) (snoc (take i l) (getD l i 0))
-  where
-    and-true : (t : Bool) → (t && true) ≡ t
-    and-true true = refl
-    and-true false = refl
-
-    grouped : (p q r : Bool) → (p && (q && r)) ≡ (p && q && r)
-    grouped true q r = refl
-    grouped false q r = refl
-
-    snoc : (l : List ℕ) (x : ℕ) → isAscii (l ++ (x ∷ [])) ≡ (isAscii l && ltb x 128)
-    snoc [] x = and-true (ltb x 128)
-    snoc (y ∷ ys) x = rw (snoc ys x) (grouped (ltb y 128) (isAscii ys) (ltb x 128))

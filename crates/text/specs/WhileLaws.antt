@@ -1,13 +1,15 @@
 -- Laws of `takeWhile`, `dropWhile` and `dropWhileEnd`: they take a list apart, what is taken away passes the test, and what is left
--- does not begin, or end, with an element that passes. Assumes nothing.
-use Prim.Native.Nat.{ℕ, zero, suc, _-_, _≤_, _<_}
-use native.Mathlib.Nat.{add-zero}
+-- does not begin, or end, with an element that passes; and the turns of a scan for the next element that does not pass.
+-- Assumes nothing.
+use Prim.Native.Nat.{ℕ, zero, suc, _+_, _-_, _≤_, _<_}
+use native.Mathlib.Nat.{add-zero, zero-add}
+use native.Mathlib.Numerals.{add-one}
 use native.Mathlib.Omega.{arith}
 use mathlib.Core.Path.{_≡_, refl, sym, _∙_, ap}
 use mathlib.Core.Bool.{Bool, true, false, cond}
 use mathlib.Core.List.{List, [], _∷_, _++_, reverse, reverse-cons, reverse-append, reverse-reverse}
-use lib.ListN.{length, getD, take, length-append, length-reverse, List·getD-append}
-use lib.Seq.{take-append-seam, getD-append-add, getD-at}
+use lib.ListN.{length, getD, take, drop, length-append, length-reverse, length-drop, List·getD-append}
+use lib.Seq.{take-append-seam, drop-append-seam, drop-cons, getD-append-add, getD-at}
 use Rattle.text.specs.While.{takeWhile, dropWhile, dropWhileEnd}
 
 module _ {A : Type 0} (test : A → Bool) where
@@ -29,6 +31,11 @@ module _ {A : Type 0} (test : A → Bool) where
   pub while-front : (l : List A) → takeWhile test l ≡ take (length (takeWhile test l)) l
   while-front l =
       sym (take-append-seam (takeWhile test l) (dropWhile test l)) ∙ ap (take (length (takeWhile test l))) (take-drop-while l)
+
+  -- what is left stands behind it
+  pub drop-while-rest : (l : List A) → dropWhile test l ≡ drop (length (takeWhile test l)) l
+  drop-while-rest l =
+      sym (drop-append-seam (takeWhile test l) (dropWhile test l)) ∙ ap (drop (length (takeWhile test l))) (take-drop-while l)
 
   -- what is taken is no longer than the list
   pub while-length : (l : List A) → length (takeWhile test l) ≤ length l
@@ -87,30 +94,78 @@ module _ {A : Type 0} (test : A → Bool) where
       last zero h = p 0 (omega arith)
       last (suc j) h = absurd (omega arith)
 
-  -- what `dropWhileEnd` leaves, and behind it elements that pass, are the list
-  pub drop-while-end-front : (d : A) (l : List A) → (back : List A) × (dropWhileEnd test l ++ back ≡ l) × Passing d back
-  unfolding dropWhileEnd
-  drop-while-end-front d l = (
-    reverse (takeWhile test (reverse l)),
-    sym (reverse-append (takeWhile test (reverse l)) (dropWhile test (reverse l))) ∙ ap reverse (take-drop-while (reverse l)) ∙ reverse-reverse l,
-    passing-reverse d (takeWhile test (reverse l)) (take-while-passing d (reverse l)),
-  )
+  -- A list is cut at its end to what is kept: elements that pass are taken away, and what is kept is empty, or ends with one that
+  -- does not pass.
+  pub record CutTo (d : A) (l kept : List A) : Type 0 where
+    pub back : List A
+    pub whole : l ≡ kept ++ back
+    pub back-passes : Passing d back
+    pub ends : 0 < length kept → test (getD kept (length kept - 1) d) ≡ false
 
-  -- what it leaves is no longer than the list
-  pub drop-while-end-length : (l : List A) → length (dropWhileEnd test l) ≤ length l
+  end-whole : (l : List A) → l ≡ dropWhileEnd test l ++ reverse (takeWhile test (reverse l))
   unfolding dropWhileEnd
-  drop-while-end-length l = omega (arith, length-reverse (dropWhile test (reverse l)), drop-while-length (reverse l), length-reverse l)
+  end-whole l =
+      sym (reverse-reverse l)
+      ∙ ap reverse (sym (take-drop-while (reverse l)))
+      ∙ reverse-append (takeWhile test (reverse l)) (dropWhile test (reverse l))
 
   last-reverse : (d : A) (l : List A) → 0 < length l → getD (reverse l) (length (reverse l) - 1) d ≡ getD l 0 d
   last-reverse d [] h = absurd (omega arith)
   last-reverse d (x ∷ xs) h =
       rw (reverse-cons x xs) (getD-at (reverse xs) x [] d (length (reverse xs ++ (x ∷ [])) - 1) (rw length-append (omega arith)))
 
-  -- what it leaves does not end with an element that passes
-  pub drop-while-end-ends : (d : A) (l : List A) → 0 < length (dropWhileEnd test l)
-      → test (getD (dropWhileEnd test l) (length (dropWhileEnd test l) - 1) d) ≡ false
+  -- `dropWhileEnd` cuts a list so
+  pub drop-while-end-cut : (d : A) (l : List A) → CutTo d l (dropWhileEnd test l)
   unfolding dropWhileEnd
-  drop-while-end-ends d l h =
-      let rest = dropWhile test (reverse l) in
-      let nonempty : 0 < length rest = omega (arith, length-reverse rest) in
-      ap test (last-reverse d rest nonempty) ∙ drop-while-starts d (reverse l) nonempty
+  drop-while-end-cut d l =
+      record {
+        back = reverse (takeWhile test (reverse l));
+        whole = end-whole l;
+        back-passes = passing-reverse d (takeWhile test (reverse l)) (take-while-passing d (reverse l));
+        ends = λ h. ap test (last-reverse d rest (nonempty h)) ∙ drop-while-starts d (reverse l) (nonempty h);
+      }
+    where
+      rest : List A
+      rest = dropWhile test (reverse l)
+
+      nonempty : 0 < length (reverse rest) → 0 < length rest
+      nonempty h = omega (arith, length-reverse rest)
+
+  -- what it leaves is no longer than the list
+  pub drop-while-end-length : (l : List A) → length (dropWhileEnd test l) ≤ length l
+  unfolding dropWhileEnd
+  drop-while-end-length l = omega (arith, length-reverse (dropWhile test (reverse l)), drop-while-length (reverse l), length-reverse l)
+
+  -- and stands at the start
+  pub drop-while-end-front : (l : List A) → dropWhileEnd test l ≡ take (length (dropWhileEnd test l)) l
+  drop-while-end-front l =
+      let kept = dropWhileEnd test l in
+      sym (take-append-seam kept (reverse (takeWhile test (reverse l)))) ∙ ap (take (length kept)) (sym (end-whole l))
+
+  -- A scan of the list that stands at `i` ends at `n`: it goes over the elements from there on that pass.
+  abbrev pub ScanEnds : List A → ℕ → ℕ → Type 0
+  ScanEnds l i n = i + length (takeWhile test (drop i l)) ≡ n
+
+  -- from the start it goes over what is taken
+  pub scan-start : (l : List A) → ScanEnds l 0 (length (takeWhile test l))
+  scan-start l = zero-add (length (takeWhile test l))
+
+  -- it goes on over an element that passes
+  pub scan-more : (l : List A) (i : ℕ) (d : A) {n : ℕ} → i < length l → test (getD l i d) ≡ true → ScanEnds l i n → ScanEnds l (i + 1) n
+  unfolding takeWhile
+  scan-more l i d h t s = rw add-one (omega (arith, longer))
+    where
+      longer : length (takeWhile test (drop i l)) ≡ suc (length (takeWhile test (drop (suc i) l)))
+      longer = rw (drop-cons l i d) (simp t)
+
+  -- it ends at one that does not pass
+  pub scan-stop : (l : List A) (i : ℕ) (d : A) {n : ℕ} → i < length l → test (getD l i d) ≡ false → ScanEnds l i n → i ≡ n
+  unfolding takeWhile
+  scan-stop l i d h t s = omega (arith, over)
+    where
+      over : length (takeWhile test (drop i l)) ≡ 0
+      over = rw (drop-cons l i d) (simp t)
+
+  -- and at the list's end
+  pub scan-end : (l : List A) (i : ℕ) {n : ℕ} → length l ≤ i → ScanEnds l i n → i ≡ n
+  scan-end l i h s = omega (arith, while-length (drop i l), length-drop i l)

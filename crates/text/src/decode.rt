@@ -4,20 +4,21 @@ ghost use mathlib.Core.List.{map};
 ghost use Prim.Native.Nat.{_≤_};
 ghost use lib.ListN.{length};
 ghost use Rattle.sectors.specs.Fill.{fill};
-ghost use Rattle.text.specs.Utf8.{blanked, isAscii, encoded};
-ghost use Rattle.text.specs.Decode.{decodeOf, decodeInto};
+ghost use Rattle.text.specs.Ascii.{isAscii};
+ghost use Rattle.text.specs.Decode.{gives, answerIn, pageWith, decodeOf, decodeInto};
+ghost use Rattle.text.specs.Utf8.{blanked, encoded};
 use crate::charset::LATIN_1;
 use crate::charset::charset;
 use crate::refusal::SET_NOT_HELD;
 use crate::refusal::SHORT_PAGE;
-use crate::utf8::blank_control;
-use crate::utf8::put_utf8;
+use crate::utf8::blank_low;
+use crate::utf8::put_character;
 
-// A refusal, or 0 and the bytes of the text.
+// A refusal, or 0 and how many bytes the text has.
 #[repr(C)]
 pub struct DecodeAnswer {
     pub refusal: u8,
-    pub length: usize,
+    pub len: usize,
 }
 
 // Whether every byte is ASCII; every byte is looked at.
@@ -27,13 +28,13 @@ fn is_ascii(bytes: &[u8]) -> bool
     let mut ascii = true;
     let mut i = 0;
     while i < bytes.len() {
-        ascii = ascii & (bytes[i] < 128);
+        ascii = ascii & (bytes[i] < 0x80);
         i += 1;
     }
     ascii
 }
 
-// The bytes of a Latin-1 string's UTF-8: one of a byte below 128, two of another.
+// How many bytes the UTF-8 of a Latin-1 string has: one for a byte below hexadecimal 80, two for another.
 fn latin1_length(bytes: &[u8]) -> usize
     ensures { λ r. ⌜ r ≡ length (encoded (now (bytes .entry))) ⌝ }
 {
@@ -43,7 +44,7 @@ fn latin1_length(bytes: &[u8]) -> usize
     let mut n = bytes.len();
     let mut i = 0;
     while i < bytes.len() {
-        n += (bytes[i] / 128) as usize;
+        n += (bytes[i] / 0x80) as usize;
         i += 1;
     }
     n
@@ -56,7 +57,7 @@ fn put_ascii(bytes: &[u8], page: &mut [u8])
 {
     let mut i = 0;
     while i < bytes.len() {
-        page[i] = blank_control(bytes[i] as u32) as u8;
+        page[i] = blank_low(bytes[i] as u32) as u8;
         i += 1;
     }
 }
@@ -69,40 +70,45 @@ fn put_latin1(bytes: &[u8], page: &mut [u8])
     let mut at = 0;
     let mut i = 0;
     while i < bytes.len() {
-        let point = blank_control(bytes[i] as u32);
-        at = put_utf8(page, at, point);
+        at = put_character(page, at, bytes[i] as u32);
         i += 1;
     }
 }
 
-// Decodes a string's bytes, of the set that a code names, to the start of a page. A refusal changes nothing.
+// Decodes Latin-1, in which each byte is its own code point.
+fn decode_latin1(bytes: &[u8], page: &mut [u8]) -> DecodeAnswer
+    ensures answer { λ r. ⌜ r ≡ answerIn (length (now (page .entry))) (gives (now (bytes .entry))) ⌝ }
+    ensures filled { λ r. ⌜ now (page .exit) ≡ pageWith (gives (now (bytes .entry))) (now (page .entry)) ⌝ }
+{
+    let len = latin1_length(bytes);
+    if page.len() < len {
+        return DecodeAnswer {
+            refusal: SHORT_PAGE,
+            len: 0,
+        };
+    }
+    if len == bytes.len() {
+        put_ascii(bytes, page);
+    } else {
+        put_latin1(bytes, page);
+    }
+    DecodeAnswer { refusal: 0, len }
+}
+
+// Decodes a string's bytes, of the set that a code names, to the start of a page. A refusal changes nothing. (The Rust's
+// `decode_string`; its own `decode` leaves controls as they are.)
 pub fn decode(bytes: &[u8], code: u8, page: &mut [u8]) -> DecodeAnswer
     ensures answer { λ r. ⌜ r ≡ decodeOf (now (bytes .entry)) code (length (now (page .entry))) ⌝ }
     ensures filled { λ r. ⌜ now (page .exit) ≡ decodeInto (now (bytes .entry)) code (now (page .entry)) ⌝ }
 {
     if bytes.len() == 0 {
-        return DecodeAnswer {
-            refusal: 0,
-            length: 0,
-        };
+        return DecodeAnswer { refusal: 0, len: 0 };
     }
     if charset(code) != LATIN_1 {
         return DecodeAnswer {
             refusal: SET_NOT_HELD,
-            length: 0,
+            len: 0,
         };
     }
-    let length = latin1_length(bytes);
-    if page.len() < length {
-        return DecodeAnswer {
-            refusal: SHORT_PAGE,
-            length: 0,
-        };
-    }
-    if length == bytes.len() {
-        put_ascii(bytes, page);
-    } else {
-        put_latin1(bytes, page);
-    }
-    DecodeAnswer { refusal: 0, length }
+    decode_latin1(bytes, page)
 }

@@ -1,15 +1,17 @@
 // Stored strings: the bytes of a table from a place up to a zero byte.
 ghost use mathlib.Core.Path.{_≡_};
-ghost use Prim.Native.Nat.{_≤_, min};
-ghost use lib.ListN.{length, take};
-ghost use Rattle.text.specs.String.{untilZero, stringAt};
+ghost use Prim.Native.Nat.{min};
+ghost use denote.Ref.{ptr};
+ghost use lib.ListN.{length};
+ghost use Rattle.sectors.specs.Fill.{startAt};
+ghost use Rattle.text.specs.String.{untilZero, stringAt, stringStart};
 
 // Bytes that a string has at most.
 pub const MAX_STRING_BYTES: usize = 4096;
 
 // How many bytes stand before the first zero byte; all, if there is none.
 pub(crate) fn zero_in(bytes: &[u8]) -> usize
-    ensures { λ r. ⌜ (r ≤ length (now (bytes .entry))) × (take r (now (bytes .entry)) ≡ untilZero (now (bytes .entry))) ⌝ }
+    ensures { λ r. ⌜ r ≡ length (untilZero (now (bytes .entry))) ⌝ }
 {
     let mut i = 0;
     while i < bytes.len() {
@@ -21,21 +23,21 @@ pub(crate) fn zero_in(bytes: &[u8]) -> usize
     i
 }
 
-fn lesser(a: usize, b: usize) -> usize
+// The lesser of two numbers.
+pub(crate) fn lesser(a: usize, b: usize) -> usize
     ensures { λ r. ⌜ r ≡ min a b ⌝ }
 {
     if a < b { a } else { b }
 }
 
-// The string at a place, as a part of the table.
+// The string at a place, as a part of the table; empty at its end, and for a place past it.
 pub fn string_bytes<'a>(table: &'a [u8], place: usize) -> &'a [u8]
-    ensures { λ r. ⌜ now r ≡ stringAt (now (table .entry)) place ⌝ }
+    ensures bytes { λ r. ⌜ now r ≡ stringAt (now (table .entry)) place ⌝ }
+    ensures placed { λ r. ⌜ ptr r ≡ startAt (ptr (table .entry)) (stringStart (now (table .entry)) place) ⌝ }
 {
-    if table.len() <= place {
-        return &table[..0];
-    }
-    let end = place + lesser(MAX_STRING_BYTES, table.len() - place);
-    let window = &table[place..end];
+    let start = lesser(place, table.len());
+    let size = lesser(MAX_STRING_BYTES, table.len() - start);
+    let window = &table[start..start + size];
     let n = zero_in(window);
     &window[..n]
 }

@@ -5,15 +5,18 @@ ghost use lib.ListN.{length};
 ghost use Rattle.sectors.specs.Fill.{fill};
 ghost use Rattle.text.specs.Utf8.{blanked, utf8};
 
-// A blank in place of a control character.
-pub(crate) fn blank_control(point: u32) -> u32
+// What stands in place of a control character.
+const BLANK: u32 = 0x20;
+
+// A code point; a blank in place of one below 32.
+pub(crate) fn blank_low(point: u32) -> u32
     ensures { λ r. ⌜ r ≡ blanked point ⌝ }
 {
-    if point < 32 { 32 } else { point }
+    if point < 32 { BLANK } else { point }
 }
 
 // Writes a code point from a place on; answers the place behind it.
-pub(crate) fn put_utf8(page: &mut [u8], at: usize, point: u32) -> usize
+fn put_utf8(page: &mut [u8], at: usize, point: u32) -> usize
     requires { ⌜ (at + length (utf8 point) ≤ length (now page)) × (point < 0x110000) ⌝ }
     ensures { λ r. ⌜ (now (page .exit) ≡ fill at (utf8 point) (now (page .entry))) × (r ≡ at + length (utf8 point)) ⌝ }
 {
@@ -37,4 +40,12 @@ pub(crate) fn put_utf8(page: &mut [u8], at: usize, point: u32) -> usize
     page[at + 2] = (0x80 + point / 64 % 64) as u8;
     page[at + 3] = (0x80 + point % 64) as u8;
     at + 4
+}
+
+// The same of a character of a text: a blank in place of a code point below 32.
+pub(crate) fn put_character(page: &mut [u8], at: usize, point: u32) -> usize
+    requires { ⌜ (at + length (utf8 (blanked point)) ≤ length (now page)) × (point < 0x110000) ⌝ }
+    ensures { λ r. ⌜ (now (page .exit) ≡ fill at (utf8 (blanked point)) (now (page .entry))) × (r ≡ at + length (utf8 (blanked point))) ⌝ }
+{
+    put_utf8(page, at, blank_low(point))
 }

@@ -18,7 +18,7 @@ fn decode_line(bytes: &[u8], code: u8) {
     let answer = text::decode::decode(bytes, code, &mut page);
     io::print_decimal(STDOUT_FILENO, answer.refusal as u64);
     io::write_all(STDOUT_FILENO, b" ");
-    io::print_decimal(STDOUT_FILENO, answer.length as u64);
+    io::print_decimal(STDOUT_FILENO, answer.len as u64);
     io::write_all(STDOUT_FILENO, b" ");
     print_four(&page, 0);
     print_four(&page, 4);

@@ -38,9 +38,9 @@ fn text(letter: fn(&mut Rng) -> u8) -> Text {
     let table = room(BYTES + 1, 0);
     table[..BYTES].fill_with(|| letter(&mut rng));
     let page = room(2 * BYTES, 2048);
-    let length = sacd::decode(&table[..BYTES], 0, page).length;
+    let len = sacd::decode(&table[..BYTES], 0, page).len;
     let rust = oracle::text::decode_string(&table[..BYTES], Charset::Latin1);
-    assert_eq!(rust.as_deref().map(str::as_bytes), Some(&page[..length]));
+    assert_eq!(rust.as_deref().map(str::as_bytes), Some(&page[..len]));
     Text { table, page }
 }
 

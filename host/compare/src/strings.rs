@@ -167,14 +167,14 @@ fn count_string(kind: &mut Kind, table: &[u8], place: usize, length: usize) {
 
 /// The text by the Rust, or its presence alone in sets 3 to 6; refusals 9 and 10 by the document.
 fn expected_decode(bytes: &[u8], code: u8, page: &mut [u8]) -> DecodeAnswer {
-    let refused = |refusal| DecodeAnswer { refusal, length: 0 };
+    let refused = |refusal| DecodeAnswer { refusal, len: 0 };
     let Some(text) = rust::decode(bytes, code) else { return refused(0) };
     if (3..=6).contains(&(code % 8)) {
         return refused(9);
     }
     let Some(start) = page.get_mut(..text.len()) else { return refused(10) };
     start.copy_from_slice(text.as_bytes());
-    DecodeAnswer { refusal: 0, length: text.len() }
+    DecodeAnswer { refusal: 0, len: text.len() }
 }
 
 fn count_code(kind: &mut Kind, bytes: &[u8], code: u8, page: usize, answer: DecodeAnswer) {
@@ -184,7 +184,7 @@ fn count_code(kind: &mut Kind, bytes: &[u8], code: u8, page: usize, answer: Deco
         kind.class_if(class, answer.refusal == 9 && set == number);
     }
     kind.class_if("set above 7", answer.refusal == 9 && code > 7);
-    kind.class_if("Latin-1 above 7", answer.length > 0 && code > 7);
+    kind.class_if("Latin-1 above 7", answer.len > 0 && code > 7);
     kind.class_if("absent in Latin-1", bytes.is_empty() && !mapped);
     kind.class_if("absent in set 3 to 6", bytes.is_empty() && mapped);
     kind.class_if("9 before 10", answer.refusal == 9 && utf8_length(bytes) > page);
@@ -192,15 +192,15 @@ fn count_code(kind: &mut Kind, bytes: &[u8], code: u8, page: usize, answer: Deco
 
 fn count_page(kind: &mut Kind, bytes: &[u8], page: usize, answer: DecodeAnswer) {
     let need = utf8_length(bytes);
-    kind.class_if("page to the byte", answer.length > 0 && page == need);
-    kind.class_if("longer page", answer.length > 0 && page > need);
+    kind.class_if("page to the byte", answer.len > 0 && page == need);
+    kind.class_if("longer page", answer.len > 0 && page > need);
     kind.class_if("one byte short", answer.refusal == 10 && page + 1 == need && page > 0);
     kind.class_if("no page", answer.refusal == 10 && page == 0);
 }
 
 /// The classes of a decoded text, by its bytes.
 fn count_text(kind: &mut Kind, bytes: &[u8], answer: DecodeAnswer) {
-    if answer.length == 0 {
+    if answer.len == 0 {
         return;
     }
     let (mut met, mut controls, mut plain, mut high) = ([false; 256], false, false, false);

@@ -85,12 +85,12 @@ fn decoded<const N: usize>(bytes: &[u8], code: u8) -> (DecodeAnswer, [u8; N]) {
 }
 
 fn refused(refusal: u8) -> DecodeAnswer {
-    DecodeAnswer { refusal, length: 0 }
+    DecodeAnswer { refusal, len: 0 }
 }
 
 #[test]
 fn byte_e9_gives_c3_a9_and_the_rest_of_the_page_stays() {
-    let text = |length| DecodeAnswer { refusal: refusal::NONE, length };
+    let text = |len| DecodeAnswer { refusal: refusal::NONE, len };
     assert_eq!(decoded(&[0xe9], 8), (text(2), [0xc3, 0xa9, 9]));
     assert_eq!(decoded(&[0xe9], 0), (text(2), [0xc3, 0xa9]));
     assert_eq!(decoded(b"a\x1f\x7f\x80\xff", 2), (text(7), *b"a \x7f\xc2\x80\xc3\xbf\x09"));

@@ -8,7 +8,7 @@ use crate::ffi;
 pub struct DecodeAnswer {
     pub refusal: u8,
     /// The bytes of the text at the start of the page; 0 with a refusal.
-    pub length: usize,
+    pub len: usize,
 }
 
 /// The text of a fixed field, one byte a character.

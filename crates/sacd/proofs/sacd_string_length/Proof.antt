@@ -9,7 +9,7 @@ string-bytes-requires : tie.Need-string-bytes-requires
 string-bytes-requires c κs = search needs
 
 returns : tie.Need-returns
-returns c = ap length (c .string-bytes .ensures)
+returns c = ap length (c .string-bytes .ensures .0)
 
 pub sacd-string-length-spec : {M : Type 1} → statement M
 sacd-string-length-spec = tie.close (tie.spec string-bytes-requires returns)

@@ -5,7 +5,7 @@ use Prim.Native.Nat.{ℕ, _-_, _≤_}
 use native.Mathlib.Omega.{arith}
 use denote.Ref.{now}
 use lib.ListN.{length, getD, set, take, drop, length-set}
-use Rattle.sectors.proofs.Copying.{copy-more, copy-all}
+use Rattle.sectors.specs.CopyLaws.{copy-more, copy-all}
 use borrow.Author.Needs.{needs}
 use Rattle.sectors.proofs.bytes.copy_bytes.Statement.{statement}
 use Rattle.sectors.proofs.bytes.copy_bytes.Tie as tie

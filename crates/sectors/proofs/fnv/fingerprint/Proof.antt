@@ -36,7 +36,7 @@ returns-3 c =
       sym (k .before .before .is-foreign .ensures) ∙ k .before .if1 .left,
       sym (k .contains .ensures) ∙ not-false _ (c .before .before .if2 .left),
       c .digest .ensures,
-      c .before .sector-data .ensures,
+      c .before .sector-data .ensures .0,
     )
 
 pub fingerprint-spec : {M : Type 1} → statement M

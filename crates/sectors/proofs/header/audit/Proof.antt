@@ -29,17 +29,17 @@ stored-part-requires c κs =
     header-there _ (now (a .image)) (a .lsn .0) (c .before .before .before .if2 .left) (c .before .before .contains .ensures) (c .before .if3 .left)
 
 is-sound-requires : tie.Need-is-sound-requires
-is-sound-requires c κs = six-long _ _ _ (c .before .before .before .before .if2 .left) (c .before .before .before .contains .ensures) (c .before .before .if3 .left) (c .stored-part .ensures)
+is-sound-requires c κs = six-long _ _ _ (c .before .before .before .before .if2 .left) (c .before .before .before .contains .ensures) (c .before .before .if3 .left) (c .stored-part .ensures .0)
 
 returns-4 : tie.Need-returns-4
 returns-4 c =
     let e = c .before .is-sound .ensures in
-    sound-right _ _ _ (c .before .before .before .before .before .before .if2 .left) (c .before .before .before .before .before .contains .ensures) (c .before .before .before .before .if3 .left) (c .before .before .stored-part .ensures) (e .0) (e .1) (c .if4 .taken)
+    sound-right _ _ _ (c .before .before .before .before .before .before .if2 .left) (c .before .before .before .before .before .contains .ensures) (c .before .before .before .before .if3 .left) (c .before .before .stored-part .ensures .0) (e .0) (e .1) (c .if4 .taken)
 
 returns-5 : tie.Need-returns-5
 returns-5 c =
     let e = c .before .is-sound .ensures in
-    unsound-right _ _ _ (c .before .before .before .before .before .before .if2 .left) (c .before .before .before .before .before .contains .ensures) (c .before .before .before .before .if3 .left) (c .before .before .stored-part .ensures) (e .0) (e .1) (c .if4 .left)
+    unsound-right _ _ _ (c .before .before .before .before .before .before .if2 .left) (c .before .before .before .before .before .contains .ensures) (c .before .before .before .before .if3 .left) (c .before .before .stored-part .ensures .0) (e .0) (e .1) (c .if4 .left)
 
 pub audit-spec : {M : Type 1} → statement M
 audit-spec =

@@ -47,7 +47,7 @@ part-copy-bytes-end c = search needs
 copy-bytes-requires : tie.Need-copy-bytes-requires Inv-loop μ-loop
 copy-bytes-requires c κs =
     let start = c .before .before .before .before .before .before in let a = start .args in let l = c .before .before .before .loop in
-    next-length _ (now (a .image)) (a .first) _ (l .k) (start .pre .0) (c .before .before .loop-test .taken) _ (l .buf) (l .to) (c .before .stored-data .ensures) (omega arith)
+    next-length _ (now (a .image)) (a .first) _ (l .k) (start .pre .0) (c .before .before .loop-test .taken) _ (l .buf) (l .to) (c .before .stored-data .ensures .0) (omega arith)
 
 add-to : tie.Need-add-to Inv-loop μ-loop
 add-to c = search needs
@@ -65,7 +65,7 @@ loop-again c =
       search needs,
       search needs,
       copy-turn _ (now (a .image)) (a .first) _ (l .k) (start .pre .0) (c .before .before .before .before .before .loop-test .taken) (now (a .buf)) _ _ _ (l .to) (start .pre .1) (l .inv .1) (l .inv .3)
-          (c .before .before .copy-bytes .ensures ∙ c .before .before .before .before .stored-data .ensures),
+          (c .before .before .copy-bytes .ensures ∙ c .before .before .before .before .stored-data .ensures .0),
     )
 
 same-length : tie.Need-same-length Inv-loop μ-loop

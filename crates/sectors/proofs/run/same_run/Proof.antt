@@ -48,13 +48,13 @@ part-same-bytes-end c = search needs
 same-bytes-requires : tie.Need-same-bytes-requires Inv-loop μ-loop
 same-bytes-requires c κs =
     let start = c .before .before .before .before .before .before in let a = start .args in let l = c .before .before .before .loop in
-    next-length _ (now (a .image)) (a .first) _ (l .k) (start .pre .0) (c .before .before .loop-test .taken) _ (now (a .bytes)) (l .to) (c .before .stored-data .ensures) (omega arith)
+    next-length _ (now (a .image)) (a .first) _ (l .k) (start .pre .0) (c .before .before .loop-test .taken) _ (now (a .bytes)) (l .to) (c .before .stored-data .ensures .0) (omega arith)
 
 returns : tie.Need-returns Inv-loop μ-loop
 returns c =
     let start = c .before .before .before .before .before .before .before .before in let a = start .args in let l = c .before .before .before .before .before .loop in
     let more = c .before .before .before .before .loop-test .taken in
-    let e = c .before .same-bytes .ensures ∙ ap₂ same (c .before .before .before .stored-data .ensures) (bytes-part (now (a .bytes)) (l .to) (l .k) (l .inv .1)) in
+    let e = c .before .same-bytes .ensures ∙ ap₂ same (c .before .before .before .stored-data .ensures .0) (bytes-part (now (a .bytes)) (l .to) (l .k) (l .inv .1)) in
     sym (same-stop _ (now (a .image)) (a .first) _ (l .k) (start .pre .0) more (now (a .bytes)) (start .pre .1) (sym e ∙ not-true _ (c .if1 .taken)))
 
 add-to : tie.Need-add-to Inv-loop μ-loop
@@ -70,7 +70,7 @@ loop-again : tie.Need-loop-again Inv-loop μ-loop
 loop-again c =
     let start = c .before .before .before .before .before .before .before .before in let a = start .args in let l = c .before .before .before .before .before .loop in
     let more = c .before .before .before .before .loop-test .taken in
-    let e = c .before .same-bytes .ensures ∙ ap₂ same (c .before .before .before .stored-data .ensures) (bytes-part (now (a .bytes)) (l .to) (l .k) (l .inv .1)) in
+    let e = c .before .same-bytes .ensures ∙ ap₂ same (c .before .before .before .stored-data .ensures .0) (bytes-part (now (a .bytes)) (l .to) (l .k) (l .inv .1)) in
     (search needs, search needs, same-turn _ (now (a .image)) (a .first) _ (l .k) (start .pre .0) more (now (a .bytes)) (start .pre .1) (l .inv .2) (sym e ∙ not-false _ (c .if1 .left)))
 
 returns-2 : tie.Need-returns-2 Inv-loop μ-loop

@@ -1,7 +1,11 @@
 -- `sectors::sector::stored_part` meets its contract: the part lies in the image, at its place. Assumes nothing.
+use mathlib.Core.Path.{ap, _∙_}
+use Prim.Native.Nat.{ℕ, _+_, _*_}
 use native.Mathlib.Omega.{arith}
-use denote.Ref.{now}
-use Rattle.sectors.proofs.Places.{part-inside, part-is}
+use denote.Ref.{now, ptr}
+use Rattle.sectors.specs.Fill.{startAt}
+use Rattle.sectors.specs.FillLaws.{slice-start}
+use Rattle.sectors.proofs.Places.{stored-is, part-inside, part-is}
 use borrow.Author.Needs.{needs}
 use Rattle.sectors.proofs.sector.stored_part.Statement.{statement}
 use Rattle.sectors.proofs.sector.stored_part.Tie as tie
@@ -37,8 +41,11 @@ part-result-end c =
 
 returns : tie.Need-returns
 returns c =
-    let a = c .before .before .before .before .args in
-    part-is (a .format) _ (c .before .before .layout-of .ensures) (now (a .image)) (a .n) (a .offset) (a .size)
+    let a = c .before .before .before .before .args in let e = c .before .before .layout-of .ensures in (
+      part-is (a .format) _ e (now (a .image)) (a .n) (a .offset) (a .size),
+      slice-start (ptr (a .image)) (a .n * c .before .before .layout-of .result .stored + a .offset)
+          ∙ ap (λ (s : ℕ). startAt (ptr (a .image)) (a .n * s + a .offset)) (stored-is (a .format) _ e),
+    )
 
 pub stored-part-spec : {M : Type 1} → statement M
 stored-part-spec =

@@ -8,8 +8,8 @@ use lib.Dec.{ltb}
 use lib.ListN.{length, getD, take}
 use lib.Seq.{take-all}
 use borrow.Author.Needs.{needs}
-use Rattle.text.specs.Utf8.{isAscii}
-use Rattle.text.specs.Utf8Laws.{ascii-more}
+use Rattle.text.specs.Ascii.{isAscii}
+use Rattle.text.proofs.Ascii.{ascii-more}
 use Rattle.text.proofs.decode.is_ascii.Statement.{statement}
 use Rattle.text.proofs.decode.is_ascii.Tie as tie
 
@@ -35,7 +35,7 @@ loop-less c = search needs
 loop-again : tie.Need-loop-again Inv-loop μ-loop
 loop-again c =
     let l = c .before .before .loop in let bytes = now (c .before .before .before .args .bytes) in
-    (search needs, ap (λ (t : Bool). t && ltb (getD bytes (l .i) 0) 128) (l .inv .1) ∙ sym (ascii-more bytes (l .i) (omega arith)))
+    (search needs, ap (λ (t : Bool). t && ltb (getD bytes (l .i) 0) 0x80) (l .inv .1) ∙ sym (ascii-more bytes (l .i) (omega arith)))
 
 returns : tie.Need-returns Inv-loop μ-loop
 returns c =

@@ -1,14 +1,16 @@
 -- `text::decode::latin1_length` meets its contract: a byte passed counts once, and once more if it is 128 or above. Assumes nothing.
-use mathlib.Core.Path.{_≡_, refl, sym, ap, _∙_}
+use mathlib.Core.Path.{_≡_, sym, ap, _∙_}
 use mathlib.Core.List.{List}
 use Prim.Native.Nat.{ℕ, _+_, _-_, _≤_}
 use native.Mathlib.Omega.{arith}
 use denote.Ref.{now}
-use lib.ListN.{length, getD, take, length-append}
+use lib.ListN.{length, getD, take}
 use lib.Seq.{take-all}
 use borrow.Author.Needs.{needs}
-use Rattle.text.specs.Utf8.{utf8, blanked, encoded}
-use Rattle.text.specs.Utf8Laws.{latin1-size, encoded-more, ascii-length}
+use Rattle.text.specs.Utf8.{encoded}
+use Rattle.text.specs.Utf8Laws.{encoded-none, latin1-size}
+use Rattle.text.proofs.Ascii.{ascii-length}
+use Rattle.text.proofs.Writing.{take-next, next-length}
 use Rattle.text.proofs.decode.latin1_length.Statement.{statement}
 use Rattle.text.proofs.decode.latin1_length.Tie as tie
 
@@ -27,8 +29,7 @@ returns c =
     sym (ascii-length (now (k .before .before .args .bytes)) (sym (k .is-ascii .ensures) ∙ c .if1 .taken))
 
 loop-holds : tie.Need-loop-holds Inv-loop μ-loop
-unfolding encoded
-loop-holds c = (search needs, search needs, refl)
+loop-holds c = let none = ap length encoded-none in (search needs, search needs, omega arith)
 
 shared-slice-read-n : tie.Need-shared-slice-read-n Inv-loop μ-loop
 shared-slice-read-n c = search needs
@@ -50,7 +51,7 @@ loop-again c =
     let l = c .before .before .loop in let bytes = now (c .before .before .before .before .before .before .args .bytes) in
     let b = c .shared-slice-known2 .given (l .i) in
     let size = latin1-size (getD bytes (l .i) 0) (omega arith) in
-    let sum = ap length (encoded-more bytes (l .i) (omega arith)) ∙ length-append (encoded (take (l .i) bytes)) (utf8 (blanked (getD bytes (l .i) 0))) in
+    let sum = ap (λ (s : List ℕ). length (encoded s)) (take-next bytes (l .i) (omega arith)) ∙ next-length (take (l .i) bytes) (getD bytes (l .i) 0) in
     (omega arith, omega arith, omega arith)
 
 returns-2 : tie.Need-returns-2 Inv-loop μ-loop

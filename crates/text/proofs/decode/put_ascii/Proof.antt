@@ -24,20 +24,20 @@ abbrev μ-loop : tie.MeasureT-loop
 loop-holds : tie.Need-loop-holds Inv-loop μ-loop
 loop-holds c = (search needs, refl, sym (fill-none 0 (now (c .before .before .args .page))))
 
-shared-slice-read-blank-control : tie.Need-shared-slice-read-blank-control Inv-loop μ-loop
-shared-slice-read-blank-control c = search needs
+shared-slice-read-blank-low : tie.Need-shared-slice-read-blank-low Inv-loop μ-loop
+shared-slice-read-blank-low c = search needs
 
-cast-blank-control : tie.Need-cast-blank-control Inv-loop μ-loop
-cast-blank-control c = omega (arith, c .shared-slice-known2 .given (c .before .before .loop .i))
+cast-blank-low : tie.Need-cast-blank-low Inv-loop μ-loop
+cast-blank-low c = omega (arith, c .shared-slice-known2 .given (c .before .before .loop .i))
 
-blank-control-requires : tie.Need-blank-control-requires Inv-loop μ-loop
-blank-control-requires c κs = search needs
+blank-low-requires : tie.Need-blank-low-requires Inv-loop μ-loop
+blank-low-requires c κs = search needs
 
 cast-page : tie.Need-cast-page Inv-loop μ-loop
 cast-page c =
     let i = c .before .before .before .loop .i in
     let b = c .before .shared-slice-known2 .given i in
-    omega (arith, c .blank-control .ensures, blanked-below (getD (now (c .before .before .before .before .before .before .args .bytes)) i 0) 256 (omega arith) (omega arith))
+    omega (arith, c .blank-low .ensures, blanked-below (getD (now (c .before .before .before .before .before .before .args .bytes)) i 0) 256 (omega arith) (omega arith))
 
 slice-write-page : tie.Need-slice-write-page Inv-loop μ-loop
 slice-write-page c = omega arith
@@ -53,7 +53,7 @@ loop-again c =
     let l = c .before .before .before .loop in let a = c .before .before .before .before .before .before .args in (
       omega arith,
       simp length-set (l .inv .1),
-      (λ i. set (l .inv .2 i) (l .i) (c .blank-control .ensures i)) ∙ byte-written (now (a .bytes)) (now (a .page)) (l .i) (omega arith) (c .before .before .before .before .before .before .pre),
+      (λ i. set (l .inv .2 i) (l .i) (c .blank-low .ensures i)) ∙ byte-written (now (a .bytes)) (now (a .page)) (l .i) (omega arith) (c .before .before .before .before .before .before .pre),
     )
 
 same-length : tie.Need-same-length Inv-loop μ-loop
@@ -71,9 +71,9 @@ put-ascii-spec =
     Inv-loop
     μ-loop
     loop-holds
-    shared-slice-read-blank-control
-    cast-blank-control
-    blank-control-requires
+    shared-slice-read-blank-low
+    cast-blank-low
+    blank-low-requires
     cast-page
     slice-write-page
     add-i

@@ -5,15 +5,15 @@ use borrow.Author.Needs.{needs}
 use Rattle.text.proofs.fixed.fixed_bytes.Statement.{statement}
 use Rattle.text.proofs.fixed.fixed_bytes.Tie as tie
 
-stored-bytes-requires : tie.Need-stored-bytes-requires
-stored-bytes-requires c κs = search needs
+field-text-requires : tie.Need-field-text-requires
+field-text-requires c κs = search needs
 
-hold-requires : tie.Need-hold-requires
-hold-requires c κs = search needs
+fixed-of-requires : tie.Need-fixed-of-requires
+fixed-of-requires c κs = search needs
 
 returns : tie.Need-returns
 unfolding fixedBytesOf
-returns c = c .hold .ensures ∙ ap fixedOf (c .before .stored-bytes .ensures .0)
+returns c = c .fixed-of .ensures ∙ ap fixedOf (c .before .field-text .ensures .0)
 
 pub fixed-bytes-spec : {M : Type 1} → statement M
-fixed-bytes-spec = tie.close (tie.spec stored-bytes-requires hold-requires returns)
+fixed-bytes-spec = tie.close (tie.spec field-text-requires fixed-of-requires returns)

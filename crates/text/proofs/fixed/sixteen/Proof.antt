@@ -5,7 +5,7 @@ use Prim.Native.Nat.{ℕ, _-_, _≤_}
 use native.Mathlib.Omega.{arith}
 use denote.Ref.{now}
 use lib.ListN.{length, getD, set, take, drop, replicate}
-use Rattle.sectors.proofs.Copying.{copy-more}
+use Rattle.sectors.specs.CopyLaws.{copy-more}
 use Rattle.text.specs.Fixed.{fieldSize}
 use Rattle.text.proofs.Padding.{pad-all}
 use borrow.Author.Needs.{needs}

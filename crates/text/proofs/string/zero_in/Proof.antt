@@ -1,25 +1,24 @@
--- `text::string::zero_in` meets its contract: the bytes passed and what stands before the first zero of the rest are what stands
--- before the first zero of the whole. Assumes nothing.
-use mathlib.Core.Path.{_≡_, refl, sym, _∙_}
-use mathlib.Core.List.{_++_}
-use Prim.Native.Nat.{_-_, _≤_}
+-- `text::string::zero_in` meets its contract: it scans for the first byte that is zero. Assumes nothing.
+use Prim.Native.Nat.{_-_}
 use native.Mathlib.Omega.{arith}
 use denote.Ref.{now}
-use lib.ListN.{length, take, drop}
+use lib.ListN.{length}
 use borrow.Author.Needs.{needs}
-use Rattle.text.specs.String.{untilZero}
-use Rattle.text.proofs.Until.{until-more, until-stop, until-end}
+use Rattle.text.specs.WhileLaws.{ScanEnds, scan-start, scan-more, scan-stop, scan-end}
+use Rattle.text.specs.String.{nonzero, untilZero}
+use Rattle.text.specs.StringLaws.{ne-nonzero, eq-nonzero}
 use Rattle.text.proofs.string.zero_in.Statement.{statement}
 use Rattle.text.proofs.string.zero_in.Tie as tie
 
 abbrev Inv-loop : tie.InvT-loop
-Inv-loop bytes i₀ i = (i ≤ length bytes) × (take i bytes ++ untilZero (drop i bytes) ≡ untilZero bytes)
+Inv-loop bytes i₀ i = ScanEnds nonzero bytes i (length (untilZero bytes))
 
 abbrev μ-loop : tie.MeasureT-loop
 μ-loop bytes i₀ i = length bytes - i
 
 loop-holds : tie.Need-loop-holds Inv-loop μ-loop
-loop-holds c = (search needs, refl)
+unfolding untilZero
+loop-holds c = scan-start nonzero (now (c .args .bytes))
 
 shared-slice-read-if1 : tie.Need-shared-slice-read-if1 Inv-loop μ-loop
 shared-slice-read-if1 c = search needs
@@ -27,7 +26,7 @@ shared-slice-read-if1 c = search needs
 returns : tie.Need-returns Inv-loop μ-loop
 returns c =
     let turn = c .before .before .before in let l = turn .loop in
-    (search needs, sym (until-stop (now (turn .before .args .bytes)) (l .i) (omega arith) (c .if1 .taken)) ∙ l .inv .1)
+    scan-stop nonzero (now (turn .before .args .bytes)) (l .i) 0 (omega arith) (eq-nonzero _ (c .if1 .taken)) (l .inv)
 
 add-i : tie.Need-add-i Inv-loop μ-loop
 add-i c = search needs
@@ -38,12 +37,10 @@ loop-less c = search needs
 loop-again : tie.Need-loop-again Inv-loop μ-loop
 loop-again c =
     let turn = c .before .before .before in let l = turn .loop in
-    (search needs, sym (until-more (now (turn .before .args .bytes)) (l .i) (omega arith) (c .if1 .left)) ∙ l .inv .1)
+    scan-more nonzero (now (turn .before .args .bytes)) (l .i) 0 (omega arith) (ne-nonzero _ (c .if1 .left)) (l .inv)
 
 returns-2 : tie.Need-returns-2 Inv-loop μ-loop
-returns-2 c =
-    let l = c .before .loop in
-    (search needs, sym (until-end (now (c .before .before .args .bytes)) (l .i) (omega arith)) ∙ l .inv .1)
+returns-2 c = let l = c .before .loop in scan-end nonzero (now (c .before .before .args .bytes)) (l .i) (omega arith) (l .inv)
 
 pub zero-in-spec : {M : Type 1} → statement M
 zero-in-spec =

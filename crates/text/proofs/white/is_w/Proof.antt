@@ -1,6 +1,6 @@
 -- `text::white::is_w` meets its contract: the test is the definition's. Assumes nothing.
 use mathlib.Core.Path.{refl}
-use Rattle.text.specs.Fixed.{isWhite}
+use Rattle.text.specs.White.{isWhite}
 use Rattle.text.proofs.white.is_w.Statement.{statement}
 use Rattle.text.proofs.white.is_w.Tie as tie
 

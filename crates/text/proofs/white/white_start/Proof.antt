@@ -1,24 +1,24 @@
--- `text::white::white_start` meets its contract: the bytes passed are white, so the rest has the same to drop. Assumes nothing.
-use mathlib.Core.Path.{_≡_, refl, _∙_}
-use Prim.Native.Nat.{_-_, _≤_}
+-- `text::white::white_start` meets its contract: it scans for the first byte that is not white. Assumes nothing.
+use Prim.Native.Nat.{_-_}
 use native.Mathlib.Omega.{arith}
 use denote.Ref.{now}
-use lib.ListN.{length, drop}
-use Rattle.text.specs.While.{dropWhile}
-use Rattle.text.specs.Fixed.{isWhite}
-use Rattle.text.proofs.Trimming.{answered-true, answered-false, start-more, start-stop, start-all}
+use lib.ListN.{length}
+use Rattle.text.specs.While.{takeWhile}
+use Rattle.text.specs.WhileLaws.{ScanEnds, scan-start, scan-more, scan-stop, scan-end}
+use Rattle.text.specs.White.{isWhite}
+use Rattle.text.proofs.Tests.{answered-true, answered-false}
 use borrow.Author.Needs.{needs}
 use Rattle.text.proofs.white.white_start.Statement.{statement}
 use Rattle.text.proofs.white.white_start.Tie as tie
 
 abbrev Inv-loop : tie.InvT-loop
-Inv-loop bytes i₀ i = (i ≤ length bytes) × (dropWhile isWhite (drop i bytes) ≡ dropWhile isWhite bytes)
+Inv-loop bytes i₀ i = ScanEnds isWhite bytes i (length (takeWhile isWhite bytes))
 
 abbrev μ-loop : tie.MeasureT-loop
 μ-loop bytes i₀ i = length bytes - i
 
 loop-holds : tie.Need-loop-holds Inv-loop μ-loop
-loop-holds c = (search needs, refl)
+loop-holds c = scan-start isWhite (now (c .before .args .bytes))
 
 shared-slice-read-is-w : tie.Need-shared-slice-read-is-w Inv-loop μ-loop
 shared-slice-read-is-w c = search needs
@@ -30,7 +30,7 @@ returns : tie.Need-returns Inv-loop μ-loop
 returns c =
     let at-loop = c .before .before .before .before in
     let bytes = now (at-loop .before .before .args .bytes) in let l = at-loop .loop in let w = c .before .is-w in
-    (omega arith, start-stop isWhite bytes (l .i) (omega arith) (answered-false (w .ensures) (c .if1 .taken)) ∙ l .inv .1)
+    scan-stop isWhite bytes (l .i) 0 (omega arith) (answered-false (w .ensures) (c .if1 .taken)) (l .inv)
 
 add-i : tie.Need-add-i Inv-loop μ-loop
 add-i c = search needs
@@ -42,12 +42,12 @@ loop-again : tie.Need-loop-again Inv-loop μ-loop
 loop-again c =
     let at-loop = c .before .before .before .before in
     let bytes = now (at-loop .before .before .args .bytes) in let l = at-loop .loop in let w = c .before .is-w in
-    (omega arith, start-more isWhite bytes (l .i) (omega arith) (answered-true (w .ensures) (c .if1 .left)) ∙ l .inv .1)
+    scan-more isWhite bytes (l .i) 0 (omega arith) (answered-true (w .ensures) (c .if1 .left)) (l .inv)
 
 returns-2 : tie.Need-returns-2 Inv-loop μ-loop
 returns-2 c =
-    let bytes = now (c .before .before .before .args .bytes) in let l = c .before .loop in
-    (omega arith, start-all isWhite bytes (l .i) (omega arith) ∙ l .inv .1)
+    let l = c .before .loop in
+    scan-end isWhite (now (c .before .before .before .args .bytes)) (l .i) (omega arith) (l .inv)
 
 pub white-start-spec : {M : Type 1} → statement M
 white-start-spec =

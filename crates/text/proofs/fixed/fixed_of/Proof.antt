@@ -1,10 +1,10 @@
--- `text::fixed::hold` meets its contract: the record's fields are the padded text and its length. Assumes nothing.
+-- `text::fixed::fixed_of` meets its contract: the record's fields are the padded text and its length. Assumes nothing.
 use denote.Ref.{now}
 use lib.ListN.{length}
 use Rattle.text.specs.Fixed.{fixedOf}
 use borrow.Author.Needs.{needs}
-use Rattle.text.proofs.fixed.hold.Statement.{statement}
-use Rattle.text.proofs.fixed.hold.Tie as tie
+use Rattle.text.proofs.fixed.fixed_of.Statement.{statement}
+use Rattle.text.proofs.fixed.fixed_of.Tie as tie
 
 sixteen-requires : tie.Need-sixteen-requires
 sixteen-requires c κs = search needs
@@ -16,5 +16,5 @@ returns : tie.Need-returns
 unfolding fixedOf
 returns c = λ i. record { bytes = c .sixteen .ensures i; len = length (now (c .before .before .args .text)) }
 
-pub hold-spec : {M : Type 1} → statement M
-hold-spec = tie.close (tie.spec sixteen-requires cast-t4 returns)
+pub fixed-of-spec : {M : Type 1} → statement M
+fixed-of-spec = tie.close (tie.spec sixteen-requires cast-t4 returns)

@@ -1,4 +1,4 @@
--- A turn of the loop that copies bytes one by one. Assumes nothing.
+-- Laws of a loop that copies a list element by element: a turn, and the end. Assumes nothing.
 use mathlib.Core.Path.{_≡_}
 use mathlib.Core.List.{List, _++_, append-assoc, append-nil}
 use Prim.Native.Nat.{ℕ, suc, _+_, _≤_, _<_}

@@ -1,0 +1,40 @@
+-- ASCII strings: found by a scan, and as long as their text. Assumes nothing.
+use mathlib.Core.Path.{_≡_, refl, ap, _∙_}
+use mathlib.Core.Bool.{Bool, true, false, _&&_, and-eq-true-iff}
+use mathlib.Core.List.{List, [], _∷_, _++_, flatMap}
+use Prim.Native.Nat.{ℕ, _+_, _<_}
+use native.Mathlib.Omega.{arith}
+use borrow.Author.Tests.{ltb-true}
+use lib.Dec.{ltb}
+use lib.ListN.{length, getD, take, length-append}
+use Rattle.text.specs.Utf8.{utf8, blanked, encoded}
+use Rattle.text.specs.Utf8Laws.{utf8-one, blanked-below}
+use Rattle.text.specs.Ascii.{isAscii}
+use Rattle.text.proofs.Writing.{take-next}
+
+-- an ASCII string is as long as its text
+pub ascii-length : (points : List ℕ) → isAscii points ≡ true → length (encoded points) ≡ length points
+unfolding encoded flatMap isAscii
+ascii-length [] e = refl
+ascii-length (x ∷ xs) e =
+    let both = and-eq-true-iff (ltb x 0x80) (isAscii xs) .0 e in
+    let size = ap length (utf8-one (blanked x) (blanked-below x 0x80 (ltb-true x 0x80 (both .0)) (omega arith))) in
+    let sum = length-append (utf8 (blanked x)) (encoded xs) in
+    omega (arith, ascii-length xs (both .1))
+
+-- a byte more is looked at
+pub ascii-more : (l : List ℕ) (i : ℕ) → i < length l → isAscii (take (i + 1) l) ≡ (isAscii (take i l) && ltb (getD l i 0) 0x80)
+unfolding isAscii
+ascii-more l i h = ap isAscii (take-next l i h) ∙ snoc (take i l) (getD l i 0)
+  where
+    and-true : (t : Bool) → (t && true) ≡ t
+    and-true true = refl
+    and-true false = refl
+
+    grouped : (p q r : Bool) → (p && (q && r)) ≡ (p && q && r)
+    grouped true q r = refl
+    grouped false q r = refl
+
+    snoc : (l : List ℕ) (x : ℕ) → isAscii (l ++ (x ∷ [])) ≡ (isAscii l && ltb x 0x80)
+    snoc [] x = and-true (ltb x 0x80)
+    snoc (y ∷ ys) x = rw (snoc ys x) (grouped (ltb y 0x80) (isAscii ys) (ltb x 0x80))
