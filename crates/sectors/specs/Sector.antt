@@ -21,7 +21,7 @@ unfoldable pub sectorData : ℕ → List ℕ → ℕ → List ℕ
 sectorData format image lsn =
     cond (readable format (length image) lsn 1) (part (lsn * storedSize format + dataOffset format) sectorSize image) []
 
--- where they begin in an image of so many bytes; at its start if there are none
+-- "data begins at byte 0, 6, 12": where a sector's data begin in an image of so many bytes; at its start if it is not in the image
 unfoldable pub dataStart : ℕ → ℕ → ℕ → ℕ
 dataStart format bytes lsn = cond (readable format bytes lsn 1) (lsn * storedSize format + dataOffset format) 0
 

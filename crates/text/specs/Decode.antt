@@ -31,7 +31,7 @@ refusing number = record { refusal = number; len = 0 }
 abbrev pub giving : ℕ → DecodeAnswer
 giving n = record { refusal = 0; len = n }
 
--- "10 | short page | decoded text longer than the page lent": 10 of a page of so many bytes, and only if nothing else is refused
+-- "10 | short page | decoded text longer than the page lent": the answer in a page of so many bytes; 10 only if nothing else is refused
 unfoldable pub answerIn : ℕ → Decoded → DecodeAnswer
 answerIn size (refused number) = refusing number
 answerIn size (gives points) = cond (leb (length (encoded points)) size) (giving (length (encoded points))) (refusing shortPage)

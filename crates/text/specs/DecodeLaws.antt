@@ -132,19 +132,19 @@ module _ (bytes : List ℕ) (code : ℕ) where
       go (fitting points e h) =
           absurd (refuses (ap (λ (a : DecodeAnswer). a .refusal) (decode-gives points e (length page) ∙ answer-fits points (length page) h)))
 
-  -- only a present text of set 3 to 6 is refused before the page is looked at
-  points-refused : (number : ℕ) → pointsOf bytes code ≡ refused number → (0 < length bytes) × (isMapped (setOf code) ≡ true)
+  -- only a present text of set 3 to 6 is refused before the page is looked at, with 9
+  pub points-refused : (number : ℕ) → pointsOf bytes code ≡ refused number → (number ≡ setNotHeld) × (0 < length bytes) × (isMapped (setOf code) ≡ true)
   points-refused number e = by-bytes (length bytes) refl
     where
       number-of : Decoded → ℕ
       number-of (refused n) = suc n
       number-of (gives points) = zero
 
-      by-set : 0 < length bytes → (t : Bool) → isMapped (setOf code) ≡ t → (0 < length bytes) × (isMapped (setOf code) ≡ true)
-      by-set nonempty true m = (nonempty, m)
+      by-set : 0 < length bytes → (t : Bool) → isMapped (setOf code) ≡ t → (number ≡ setNotHeld) × (0 < length bytes) × (isMapped (setOf code) ≡ true)
+      by-set nonempty true m = (omega (arith, ap number-of (sym e ∙ points-mapped nonempty m)), nonempty, m)
       by-set nonempty false m = absurd (omega (arith, ap number-of (sym e ∙ points-latin1 m)))
 
-      by-bytes : (n : ℕ) → length bytes ≡ n → (0 < length bytes) × (isMapped (setOf code) ≡ true)
+      by-bytes : (n : ℕ) → length bytes ≡ n → (number ≡ setNotHeld) × (0 < length bytes) × (isMapped (setOf code) ≡ true)
       by-bytes zero z = absurd (omega (arith, ap number-of (sym e ∙ points-absent z)))
       by-bytes (suc n) z = by-set (omega arith) (isMapped (setOf code)) refl
 
@@ -156,31 +156,32 @@ module _ (bytes : List ℕ) (code : ℕ) where
   nine-only size nine = go (decode-case size)
     where
       go : Case size → (0 < length bytes) × (isMapped (setOf code) ≡ true)
-      go (is-refused number e) = points-refused number e
+      go (is-refused number e) = let r = points-refused number e in (r .1, r .2)
       go (too-long points e h) = absurd (omega (arith, sym nine ∙ ap (λ (a : DecodeAnswer). a .refusal) (decode-gives points e size ∙ answer-short points size h)))
       go (fitting points e h) = absurd (omega (arith, sym nine ∙ ap (λ (a : DecodeAnswer). a .refusal) (decode-gives points e size ∙ answer-fits points size h)))
 
   -- "10 | short page | decoded text longer than the page lent", and only then
-  pub ten-comes : isMapped (setOf code) ≡ false → (size : ℕ) → size < length (encoded bytes) → decodeOf bytes code size ≡ refusing shortPage
-  ten-comes held size h = decode-gives bytes (points-latin1 held) size ∙ answer-short bytes size h
+  pub ten-comes : (points : List ℕ) → pointsOf bytes code ≡ gives points → (size : ℕ) → size < length (encoded points)
+      → decodeOf bytes code size ≡ refusing shortPage
+  ten-comes points e size h = decode-gives points e size ∙ answer-short points size h
 
-  pub ten-only : (size : ℕ) → decodeOf bytes code size .refusal ≡ shortPage → (isMapped (setOf code) ≡ false) × (size < length (encoded bytes))
-  ten-only size ten = by-set (isMapped (setOf code)) refl
+  pub ten-only : (size : ℕ) → decodeOf bytes code size .refusal ≡ shortPage
+      → (points : List ℕ) × (pointsOf bytes code ≡ gives points) × (size < length (encoded points))
+  ten-only size ten = go (decode-case size)
     where
-      by-page : isMapped (setOf code) ≡ false → (t : Bool) → leb (length (encoded bytes)) size ≡ t → (isMapped (setOf code) ≡ false) × (size < length (encoded bytes))
-      by-page held true e =
-          let fits = decode-gives bytes (points-latin1 held) size ∙ answer-fits bytes size (leb-true (length (encoded bytes)) size e) in
-          absurd (omega (arith, sym ten ∙ ap (λ (a : DecodeAnswer). a .refusal) fits))
-      by-page held false e = (held, leb-false (length (encoded bytes)) size e)
+      go : Case size → (points : List ℕ) × (pointsOf bytes code ≡ gives points) × (size < length (encoded points))
+      go (is-refused number e) =
+          absurd (omega (arith, points-refused number e .0, sym ten ∙ ap (λ (a : DecodeAnswer). a .refusal) (decode-refused number e size)))
+      go (too-long points e h) = (points, e, h)
+      go (fitting points e h) = absurd (omega (arith, sym ten ∙ ap (λ (a : DecodeAnswer). a .refusal) (decode-gives points e size ∙ answer-fits points size h)))
 
-      by-bytes : isMapped (setOf code) ≡ true → (n : ℕ) → length bytes ≡ n → ⊥
-      by-bytes mapped zero z = omega (arith, sym ten ∙ ap (λ (a : DecodeAnswer). a .refusal) (decode-absent z size))
-      by-bytes mapped (suc n) z = omega (arith, sym ten ∙ ap (λ (a : DecodeAnswer). a .refusal) (nine-comes (omega arith) mapped size))
-
-      by-set : (t : Bool) → isMapped (setOf code) ≡ t → (isMapped (setOf code) ≡ false) × (size < length (encoded bytes))
-      by-set true m = absurd (by-bytes m (length bytes) refl)
-      by-set false m = by-page m (leb (length (encoded bytes)) size) refl
-
-  -- a page of twice the bytes is never too short
-  pub twice-is-enough : (size : ℕ) → ((i : ℕ) → getD bytes i 0 < 256) → 2 * length bytes ≤ size → decodeOf bytes code size .refusal ≡ shortPage → ⊥
-  twice-is-enough size small room ten = omega (arith, ten-only size ten .1, latin1-length bytes small)
+  -- of Latin-1 a page of twice the bytes is never too short
+  pub twice-is-enough : isMapped (setOf code) ≡ false → ((i : ℕ) → getD bytes i 0 < 256) → (size : ℕ) → 2 * length bytes ≤ size
+      → decodeOf bytes code size .refusal ≡ shortPage → ⊥
+  twice-is-enough held small size room ten =
+      let t = ten-only size ten in
+      omega (arith, t .2, latin1-length bytes small, ap points-length (sym (points-latin1 held) ∙ t .1))
+    where
+      points-length : Decoded → ℕ
+      points-length (refused number) = zero
+      points-length (gives points) = length (encoded points)

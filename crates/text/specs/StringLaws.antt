@@ -74,7 +74,7 @@ pub until-zero : (l : List ℕ) → length (untilZero l) < length l → getD l (
 unfolding untilZero
 until-zero l h = nonzero-false _ (while-stops nonzero l 0 h)
 
--- there is one exactly when the first byte is not zero (of no bytes the first is 0)
+-- a byte stands before the first zero exactly when the first byte is not zero (of no bytes the first is 0)
 pub until-present : (l : List ℕ) → present (untilZero l) ≡ nonzero (getD l 0 0)
 unfolding present untilZero takeWhile
 until-present [] = sym (eq-nonzero 0 refl)

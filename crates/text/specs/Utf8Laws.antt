@@ -116,7 +116,7 @@ encoded-front l i =
     let parts = ap length (encoded-append (take i l) (drop i l)) ∙ length-append (encoded (take i l)) (encoded (drop i l)) in
     omega arith
 
--- "any code points at most four bytes each", and at least one
+-- any code points give at most four bytes each, and at least one
 pub encoded-length : (points : List ℕ) → (length points ≤ length (encoded points)) × (length (encoded points) ≤ 4 * length points)
 unfolding encoded flatMap
 encoded-length [] = (omega arith, omega arith)

@@ -54,7 +54,7 @@ fn string_line(table: &[u8], place: usize) {
     io::write_all(STDOUT_FILENO, b"\n");
 }
 
-// Byte E9 gives C3 A9; controls become blanks; sets 3 to 6 are not held, but an absent text is none of theirs; a page of eight
+// Byte E9 gives C3 A9; controls become blanks; sets 3 to 6 are not held, but an absent text has length 0 in every set; a page of eight
 // bytes has room for eight.
 fn decodings() {
     decode_line(b"\xE9", 0);
@@ -65,7 +65,7 @@ fn decodings() {
     decode_line(b"abc\xE9\xE9def", 7);
 }
 
-// Set code 8 is Latin-1, 11 is set 3.
+// All cards; of the sets first: code 8 is Latin-1, 11 is set 3.
 pub(crate) fn cards() {
     charset_line(8);
     charset_line(11);

@@ -1,4 +1,4 @@
--- `sectors::sector::sector_data` meets its contract: a sector that is not in the image has no data bytes. Assumes nothing.
+-- `sectors::sector::sector_data` meets its contract: a sector that is not in the image has no data bytes, at the image's start. Assumes nothing.
 use mathlib.Core.Path.{sym, ap, _∙_}
 use denote.Ref.{now, ptr}
 use lib.ListN.{length}
