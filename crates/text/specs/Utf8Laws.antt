@@ -33,6 +33,12 @@ pub utf8-four : (point : ℕ) → 0x10000 ≤ point
 unfolding utf8 marked groups
 utf8-four point l = simp (le-ltb point 0x80 (omega arith), le-ltb point 0x800 (omega arith), le-ltb point 0x10000 l, div-one)
 
+-- the examples of the Unicode Standard, 3.9, table 3-4
+pub utf8-examples : map utf8 (0x4d ∷ 0x430 ∷ 0x4e8c ∷ 0x10302 ∷ [])
+    ≡ (0x4d ∷ []) ∷ (0xd0 ∷ 0xb0 ∷ []) ∷ (0xe4 ∷ 0xba ∷ 0x8c ∷ []) ∷ (0xf0 ∷ 0x90 ∷ 0x8c ∷ 0x82 ∷ []) ∷ []
+unfolding utf8 marked groups
+utf8-examples = refl
+
 -- what holds of one, two, three and four bytes holds of every code point's
 by-size : (P : List ℕ → Type 0) (point : ℕ) → P (point ∷ []) → ((a b : ℕ) → P (a ∷ b ∷ [])) → ((a b c : ℕ) → P (a ∷ b ∷ c ∷ []))
     → ((a b c d : ℕ) → P (a ∷ b ∷ c ∷ d ∷ [])) → P (utf8 point)
