@@ -4,7 +4,7 @@ use native.Mathlib.Numerals.{add-one}
 use native.Mathlib.Nat.{le-of-lt}
 use native.Mathlib.Omega.{arith}
 use mathlib.Core.Path.{_≡_, refl, sym, ap, _∙_}
-use mathlib.Core.Bool.{Bool, true, false, _&&_, and-eq-true-iff}
+use mathlib.Core.Bool.{Bool, true, _&&_, and-eq-true-iff, and-assoc, and-true}
 use mathlib.Core.List.{List, [], _∷_, _++_}
 use lib.Dec.{eqb}
 use lib.ListN.{length, getD, take}
@@ -33,11 +33,7 @@ unfolding same
 same-append [] [] c d e = refl
 same-append [] (y ∷ ys) c d e = absurd (omega arith)
 same-append (x ∷ xs) [] c d e = absurd (omega arith)
-same-append (x ∷ xs) (y ∷ ys) c d e = rw (same-append xs ys c d (omega arith)) (grouped (eqb x y) (same xs ys) (same c d))
-  where
-    grouped : (p q r : Bool) → (p && (q && r)) ≡ (p && q && r)
-    grouped true q r = refl
-    grouped false q r = refl
+same-append (x ∷ xs) (y ∷ ys) c d e = rw (same-append xs ys c d (omega arith)) (sym (and-assoc (eqb x y) (same xs ys) (same c d)))
 
 -- one byte more
 pub same-more : (a b : List ℕ) (i : ℕ) → i < length a → i < length b
@@ -47,8 +43,4 @@ same-more a b i ha hb =
     let la = length-take-le i a (le-of-lt ha) in
     let lb = length-take-le i b (le-of-lt hb) in
     rw (add-one, take-suc a i 0, take-suc b i 0, same-append (take i a) (take i b) (getD a i 0 ∷ []) (getD b i 0 ∷ []) (la ∙ sym lb))
-    (ap (λ (t : Bool). same (take i a) (take i b) && t) (alone (eqb (getD a i 0) (getD b i 0))))
-  where
-    alone : (t : Bool) → (t && true) ≡ t
-    alone true = refl
-    alone false = refl
+    (ap (λ (t : Bool). same (take i a) (take i b) && t) (and-true (eqb (getD a i 0) (getD b i 0))))

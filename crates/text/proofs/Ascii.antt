@@ -1,6 +1,6 @@
 -- ASCII strings: found by a scan, and as long as their text. Assumes nothing.
-use mathlib.Core.Path.{_≡_, refl, ap, _∙_}
-use mathlib.Core.Bool.{Bool, true, false, _&&_, and-eq-true-iff}
+use mathlib.Core.Path.{_≡_, refl, sym, ap, _∙_}
+use mathlib.Core.Bool.{true, _&&_, and-eq-true-iff, and-assoc, and-true}
 use mathlib.Core.List.{List, [], _∷_, _++_, flatMap}
 use Prim.Native.Nat.{ℕ, _+_, _<_}
 use native.Mathlib.Omega.{arith}
@@ -27,14 +27,6 @@ pub ascii-more : (l : List ℕ) (i : ℕ) → i < length l → isAscii (take (i 
 unfolding isAscii
 ascii-more l i h = ap isAscii (take-next l i h) ∙ snoc (take i l) (getD l i 0)
   where
-    and-true : (t : Bool) → (t && true) ≡ t
-    and-true true = refl
-    and-true false = refl
-
-    grouped : (p q r : Bool) → (p && (q && r)) ≡ (p && q && r)
-    grouped true q r = refl
-    grouped false q r = refl
-
     snoc : (l : List ℕ) (x : ℕ) → isAscii (l ++ (x ∷ [])) ≡ (isAscii l && ltb x 0x80)
     snoc [] x = and-true (ltb x 0x80)
-    snoc (y ∷ ys) x = rw (snoc ys x) (grouped (ltb y 0x80) (isAscii ys) (ltb x 0x80))
+    snoc (y ∷ ys) x = rw (snoc ys x) (sym (and-assoc (ltb y 0x80) (isAscii ys) (ltb x 0x80)))

@@ -25,10 +25,10 @@ unfoldable pub pointsOf : List ℕ → ℕ → Decoded
 pointsOf bytes code = cond (present bytes) (cond (isMapped (setOf code)) (refused setNotHeld) (gives (latin1Points bytes))) (gives [])
 
 -- the answer of a refusal, and of a text of so many bytes
-abbrev pub refusing : ℕ → DecodeAnswer
+unfoldable pub refusing : ℕ → DecodeAnswer
 refusing number = record { refusal = number; len = 0 }
 
-abbrev pub giving : ℕ → DecodeAnswer
+unfoldable pub giving : ℕ → DecodeAnswer
 giving n = record { refusal = 0; len = n }
 
 -- "10 | short page | decoded text longer than the page lent": the answer in a page of so many bytes; 10 only if nothing else is refused

@@ -17,6 +17,19 @@ use Rattle.text.specs.Utf8Laws.{encoded-none, latin1-length}
 use Rattle.text.specs.Decode.{Decoded, refused, gives, latin1Points, pointsOf, refusing, giving, answerIn, pageWith, decodeOf, decodeInto}
 use Rattle.text.specs.declared.decode.DecodeAnswer.{DecodeAnswer}
 
+-- the answers' fields
+pub refusing-is : (number : ℕ) → refusing number ≡ record { refusal = number; len = 0 }
+unfolding refusing
+refusing-is number = refl
+
+pub giving-is : (n : ℕ) → giving n ≡ record { refusal = 0; len = n }
+unfolding giving
+giving-is n = refl
+
+-- equal answers refuse alike
+refusals : {a b : DecodeAnswer} → a ≡ b → a .refusal ≡ b .refusal
+refusals e = ap (λ (a : DecodeAnswer). a .refusal) e
+
 -- code points whose text is too long for a page, and such as fit
 module _ (points : List ℕ) where
   pub answer-short : (size : ℕ) → size < length (encoded points) → answerIn size (gives points) ≡ refusing shortPage
@@ -106,6 +119,7 @@ module _ (bytes : List ℕ) (code : ℕ) where
 
   -- a text is no longer than its page
   pub decode-bound : (size : ℕ) → decodeOf bytes code size .len ≤ size
+  unfolding refusing giving
   decode-bound size = go (decode-case size)
     where
       go : Case size → decodeOf bytes code size .len ≤ size
@@ -124,13 +138,14 @@ module _ (bytes : List ℕ) (code : ℕ) where
 
   -- "Every refusal .. changes no lent memory."
   pub into-leaves : (page : List ℕ) → (decodeOf bytes code (length page) .refusal ≡ 0 → ⊥) → decodeInto bytes code page ≡ page
+  unfolding refusing giving
   into-leaves page refuses = go (decode-case (length page))
     where
       go : Case (length page) → decodeInto bytes code page ≡ page
       go (is-refused number e) = into-refused number e page
       go (too-long points e h) = into-gives points e page ∙ page-short points page h
       go (fitting points e h) =
-          absurd (refuses (ap (λ (a : DecodeAnswer). a .refusal) (decode-gives points e (length page) ∙ answer-fits points (length page) h)))
+          absurd (refuses (refusals (decode-gives points e (length page) ∙ answer-fits points (length page) h)))
 
   -- only a present text of set 3 to 6 is refused before the page is looked at, with 9
   pub points-refused : (number : ℕ) → pointsOf bytes code ≡ refused number → (number ≡ setNotHeld) × (0 < length bytes) × (isMapped (setOf code) ≡ true)
@@ -153,12 +168,13 @@ module _ (bytes : List ℕ) (code : ℕ) where
   nine-comes is-present mapped size = decode-refused setNotHeld (points-mapped is-present mapped) size
 
   pub nine-only : (size : ℕ) → decodeOf bytes code size .refusal ≡ setNotHeld → (0 < length bytes) × (isMapped (setOf code) ≡ true)
+  unfolding refusing giving
   nine-only size nine = go (decode-case size)
     where
       go : Case size → (0 < length bytes) × (isMapped (setOf code) ≡ true)
       go (is-refused number e) = let r = points-refused number e in (r .1, r .2)
-      go (too-long points e h) = absurd (omega (arith, sym nine ∙ ap (λ (a : DecodeAnswer). a .refusal) (decode-gives points e size ∙ answer-short points size h)))
-      go (fitting points e h) = absurd (omega (arith, sym nine ∙ ap (λ (a : DecodeAnswer). a .refusal) (decode-gives points e size ∙ answer-fits points size h)))
+      go (too-long points e h) = absurd (omega (arith, sym nine ∙ refusals (decode-gives points e size ∙ answer-short points size h)))
+      go (fitting points e h) = absurd (omega (arith, sym nine ∙ refusals (decode-gives points e size ∙ answer-fits points size h)))
 
   -- "10 | short page | decoded text longer than the page lent", and only then
   pub ten-comes : (points : List ℕ) → pointsOf bytes code ≡ gives points → (size : ℕ) → size < length (encoded points)
@@ -167,13 +183,14 @@ module _ (bytes : List ℕ) (code : ℕ) where
 
   pub ten-only : (size : ℕ) → decodeOf bytes code size .refusal ≡ shortPage
       → (points : List ℕ) × (pointsOf bytes code ≡ gives points) × (size < length (encoded points))
+  unfolding refusing giving
   ten-only size ten = go (decode-case size)
     where
       go : Case size → (points : List ℕ) × (pointsOf bytes code ≡ gives points) × (size < length (encoded points))
       go (is-refused number e) =
-          absurd (omega (arith, points-refused number e .0, sym ten ∙ ap (λ (a : DecodeAnswer). a .refusal) (decode-refused number e size)))
+          absurd (omega (arith, points-refused number e .0, sym ten ∙ refusals (decode-refused number e size)))
       go (too-long points e h) = (points, e, h)
-      go (fitting points e h) = absurd (omega (arith, sym ten ∙ ap (λ (a : DecodeAnswer). a .refusal) (decode-gives points e size ∙ answer-fits points size h)))
+      go (fitting points e h) = absurd (omega (arith, sym ten ∙ refusals (decode-gives points e size ∙ answer-fits points size h)))
 
   -- of Latin-1 a page of twice the bytes is never too short
   pub twice-is-enough : isMapped (setOf code) ≡ false → ((i : ℕ) → getD bytes i 0 < 256) → (size : ℕ) → 2 * length bytes ≤ size

@@ -12,7 +12,7 @@ use lib.Seq.{take-all}
 use Rattle.sectors.specs.Fill.{part}
 use Rattle.sectors.specs.FillLaws.{part-past, part-size, part-at, take-part}
 use Rattle.text.specs.While.{takeWhile}
-use Rattle.text.specs.WhileLaws.{while-front, while-length, while-passes, while-stops}
+use Rattle.text.specs.WhileLaws.{front-taken, while-front, while-length, while-passes, while-stops}
 use Rattle.text.specs.String.{nonzero, untilZero, maxStringBytes, stringAt, present}
 
 module _ (b : ℕ) where
@@ -62,7 +62,7 @@ until-length l = while-length nonzero l
 
 -- their number taken of the list gives them
 pub until-taken : (l : List ℕ) (n : ℕ) → n ≡ length (untilZero l) → (n ≤ length l) × (take n l ≡ untilZero l)
-until-taken l n e = (omega (arith, until-length l), rw e (sym (until-front l)))
+until-taken l n e = front-taken (untilZero l) l (until-front l) (until-length l) n e
 
 -- none of them is zero
 pub until-nonzero : (l : List ℕ) (i : ℕ) → i < length (untilZero l) → getD l i 0 ≡ 0 → ⊥

@@ -12,6 +12,11 @@ use lib.ListN.{length, getD, take, drop, length-append, length-reverse, length-d
 use lib.Seq.{take-append-seam, drop-append-seam, drop-cons, getD-append-add, getD-at}
 use Rattle.text.specs.While.{takeWhile, dropWhile, dropWhileEnd}
 
+-- the length of a list's front, taken of the list, gives the front
+pub front-taken : {A : Type 0} (front l : List A) → front ≡ take (length front) l → length front ≤ length l
+    → (n : ℕ) → n ≡ length front → (n ≤ length l) × (take n l ≡ front)
+front-taken front l is short n e = (omega arith, ap (λ (m : ℕ). take m l) e ∙ sym is)
+
 module _ {A : Type 0} (test : A → Bool) where
   -- each element passes (`d` stands for no element)
   abbrev pub Passing : A → List A → Type 0

@@ -20,8 +20,7 @@ pub struct FixedText {
 
 // The bytes of a field up to the first zero byte, as a part of the field; of a longer field the first 16 count.
 fn field_text<'a>(field: &'a [u8]) -> &'a [u8]
-    ensures text { λ r. ⌜ now r ≡ fieldText (now (field .entry)) ⌝ }
-    ensures short { λ r. ⌜ length (now r) ≤ fieldSize ⌝ }
+    ensures { λ r. ⌜ now r ≡ fieldText (now (field .entry)) ⌝ }
 {
     let front = &field[..lesser(FIELD_SIZE, field.len())];
     let n = zero_in(front);

@@ -1,6 +1,5 @@
 // White space at the ends of bytes.
 ghost use mathlib.Core.Path.{_≡_};
-ghost use Prim.Native.Nat.{_≤_};
 ghost use lib.ListN.{length};
 ghost use Rattle.text.specs.While.{takeWhile, dropWhileEnd};
 ghost use Rattle.text.specs.White.{isWhite, trimmed};
@@ -42,8 +41,7 @@ fn white_end(bytes: &[u8]) -> usize
 
 // Bytes without the white space at both ends, as a part of them.
 pub(crate) fn trim<'a>(bytes: &'a [u8]) -> &'a [u8]
-    ensures text { λ r. ⌜ now r ≡ trimmed (now (bytes .entry)) ⌝ }
-    ensures short { λ r. ⌜ length (now r) ≤ length (now (bytes .entry)) ⌝ }
+    ensures { λ r. ⌜ now r ≡ trimmed (now (bytes .entry)) ⌝ }
 {
     let start = white_start(bytes);
     let rest = &bytes[start..];

@@ -6,12 +6,14 @@ use denote.Ref.{now}
 use lib.ListN.{length}
 use borrow.Author.Needs.{needs}
 use Rattle.text.specs.CharsetLaws.{latin1-unmapped, not-latin1-mapped}
+use Rattle.text.specs.Decode.{refusing, giving}
 use Rattle.text.specs.DecodeLaws.{points-mapped, points-latin1, decode-refused, into-refused, decode-gives, into-gives, decode-absent, into-absent}
 use Rattle.text.specs.Refusal.{setNotHeld}
 use Rattle.text.proofs.decode.decode.Statement.{statement}
 use Rattle.text.proofs.decode.decode.Tie as tie
 
 returns : tie.Need-returns
+unfolding giving
 returns c =
     let a = c .before .before .before .args in let bytes = now (a .bytes) in let page = now (a .page) in
     (sym (decode-absent bytes (a .code) (c .if1 .taken) (length page)), sym (into-absent bytes (a .code) (c .if1 .taken) page))
@@ -20,6 +22,7 @@ charset-requires : tie.Need-charset-requires
 charset-requires c κs = search needs
 
 returns-2 : tie.Need-returns-2
+unfolding refusing
 returns-2 c =
     let a = c .before .before .before .before .before .args in let bytes = now (a .bytes) in let page = now (a .page) in
     let e = c .before .charset .ensures in let nonempty = c .before .before .if1 .left in

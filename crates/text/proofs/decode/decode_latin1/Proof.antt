@@ -30,6 +30,7 @@ latin1-length-requires : tie.Need-latin1-length-requires
 latin1-length-requires c κs = search needs
 
 returns : tie.Need-returns
+unfolding refusing
 returns c =
     let k = c .before in let a = k .before .before .before .args in
     too-short (now (a .bytes)) (now (a .page)) (k .latin1-length .ensures) (c .if1 .taken)
@@ -44,6 +45,7 @@ same-length : tie.Need-same-length
 same-length c = search needs
 
 returns-2 : tie.Need-returns-2
+unfolding giving
 returns-2 c =
     let k = c .before .before .before .before .before .before in let a = k .before .before .before .args in let bytes = now (a .bytes) in
     let size = k .latin1-length .ensures in
@@ -54,6 +56,7 @@ same-length-2 : tie.Need-same-length-2
 same-length-2 c = search needs
 
 returns-3 : tie.Need-returns-3
+unfolding giving
 returns-3 c =
     let k = c .before .before .before .before .before .before in let a = k .before .before .before .args in
     written (now (a .bytes)) (now (a .page)) (k .latin1-length .ensures) (omega arith) (c .before .before .put-latin1 .ensures)

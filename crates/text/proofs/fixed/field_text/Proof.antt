@@ -4,14 +4,13 @@ use mathlib.Core.Path.{sym, ap, _∙_}
 use Prim.Native.Nat.{ℕ}
 use native.Mathlib.Omega.{arith}
 use denote.Ref.{now}
-use lib.ListN.{length, take}
+use lib.ListN.{take}
 use lib.Seq.{length-take-le}
 use borrow.Author.Needs.{needs}
 use Rattle.sectors.specs.FillLaws.{take-cut}
 use Rattle.text.specs.String.{untilZero}
 use Rattle.text.specs.StringLaws.{until-taken}
 use Rattle.text.specs.Fixed.{fieldSize, fieldText}
-use Rattle.text.specs.FixedLaws.{field-text-short}
 use Rattle.text.proofs.fixed.field_text.Statement.{statement}
 use Rattle.text.proofs.fixed.field_text.Tie as tie
 
@@ -31,8 +30,7 @@ returns : tie.Need-returns
 unfolding fieldText
 returns c =
     let n = c .before .zero-in in let k = c .before .before .before in let field = now (k .before .before .args .field) in
-    let text = until-taken _ (n .result) (n .ensures) .1 ∙ ap (λ (m : ℕ). untilZero (take m field)) (k .lesser .ensures) ∙ ap untilZero (take-cut fieldSize field) in
-    (text, omega (arith, ap length text, field-text-short field))
+    until-taken _ (n .result) (n .ensures) .1 ∙ ap (λ (m : ℕ). untilZero (take m field)) (k .lesser .ensures) ∙ ap untilZero (take-cut fieldSize field)
 
 pub field-text-spec : {M : Type 1} → statement M
 field-text-spec =

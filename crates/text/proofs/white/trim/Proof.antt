@@ -7,9 +7,8 @@ use denote.Ref.{now}
 use lib.ListN.{length, take, drop}
 use lib.Seq.{length-take-le}
 use Rattle.text.specs.While.{dropWhileEnd}
-use Rattle.text.specs.WhileLaws.{while-length, drop-while-rest, drop-while-end-length, drop-while-end-front}
+use Rattle.text.specs.WhileLaws.{front-taken, while-length, drop-while-rest, drop-while-end-length, drop-while-end-front}
 use Rattle.text.specs.White.{isWhite, trimmed}
-use Rattle.text.specs.WhiteLaws.{trimmed-length}
 use borrow.Rule.Slice.PartAt.{part-to-end}
 use borrow.Author.Needs.{needs}
 use Rattle.text.proofs.white.trim.Statement.{statement}
@@ -17,7 +16,7 @@ use Rattle.text.proofs.white.trim.Tie as tie
 
 -- the number of the bytes left, taken of the list, gives them
 end-taken : (l : List ℕ) (n : ℕ) → n ≡ length (dropWhileEnd isWhite l) → (n ≤ length l) × (take n l ≡ dropWhileEnd isWhite l)
-end-taken l n e = (omega (arith, drop-while-end-length isWhite l), rw e (sym (drop-while-end-front isWhite l)))
+end-taken l n e = front-taken (dropWhileEnd isWhite l) l (drop-while-end-front isWhite l) (drop-while-end-length isWhite l) n e
 
 white-start-requires : tie.Need-white-start-requires
 white-start-requires c κs = search needs
@@ -44,8 +43,7 @@ returns c =
     let start = c .before .before .before .white-start in
     let rest = part-to-end bytes (start .result) ∙ ap (λ (n : ℕ). drop n bytes) (start .ensures) ∙ sym (drop-while-rest isWhite bytes) in
     let end = c .before .white-end in
-    let text = end-taken _ (end .result) (end .ensures) .1 ∙ ap (dropWhileEnd isWhite) rest in
-    (text, omega (arith, ap length text, trimmed-length bytes))
+    end-taken _ (end .result) (end .ensures) .1 ∙ ap (dropWhileEnd isWhite) rest
 
 pub trim-spec : {M : Type 1} → statement M
 trim-spec =
