@@ -1,5 +1,7 @@
 // Appended by oracle/copy, not the customer's: this module's private items, for the comparison.
 pub mod private {
+    use super::{Area, AreaPointer, Error, Image, Read, Seek, Slot, Warning, Warnings};
+
     pub fn byte(b: &[u8], at: usize) -> u8 {
         super::byte(b, at)
     }
@@ -10,5 +12,16 @@ pub mod private {
 
     pub fn be32(b: &[u8], at: usize) -> u32 {
         super::be32(b, at)
+    }
+
+    /// The area that a slot yields, if it does, and the warnings.
+    pub fn read_area<R: Read + Seek>(
+        img: &mut Image<R>,
+        slot: Slot,
+        ptr: AreaPointer,
+    ) -> Result<(Option<Area>, Vec<Warning>), Error> {
+        let mut warnings = Warnings { list: Vec::new(), log: img.log().clone() };
+        let read = super::read_area(img, slot, ptr, &mut warnings)?;
+        Ok((read.map(|(area, _, _)| area), warnings.list))
     }
 }

@@ -3,6 +3,11 @@ ghost use mathlib.Core.Path.{_≡_};
 ghost use mathlib.Core.List.{[], _∷_};
 ghost use Prim.Native.Nat.{_*_, _%_, _^_};
 ghost use lib.ListN.{length};
+ghost use Rattle.area.specs.Cap.{capOf};
+ghost use Rattle.area.specs.Items.{drawAt};
+ghost use Rattle.area.specs.Lone.{loneOf, loneAnswer, loneTracks, loneWords};
+ghost use Rattle.area.specs.TextDecode.{areaTextIn, trackTextBy, textAnswer, textPage};
+ghost use Rattle.area.specs.Timecode.{frameNumber};
 ghost use Rattle.sectors.specs.Audit.{SoundIn, auditOf};
 ghost use Rattle.sectors.specs.Fnv.{digestOf, fingerprintOf};
 ghost use Rattle.sectors.specs.Number.{beAt};
@@ -13,6 +18,14 @@ ghost use Rattle.text.specs.Decode.{decodeOf, decodeInto};
 ghost use Rattle.text.specs.Fixed.{fixedBytesOf, fixedTextOf};
 ghost use Rattle.text.specs.Language.{languageOf};
 ghost use Rattle.text.specs.String.{stringAt};
+ghost use Rattle.sacd.specs.Answers.{flagOf, capAnswer, drawAnswer};
+use area::area::Area;
+use area::cap::Capped;
+use area::items::Drawn;
+use area::lone::TableAnswer;
+use area::timecode::Frame;
+use area::timecode::Timecode;
+use area::track::Track;
 use sectors::fnv::FingerprintAnswer;
 use sectors::header::AuditAnswer;
 use sectors::run::Comparison;
@@ -173,4 +186,119 @@ pub extern "C" fn sacd_language(first: u8, second: u8) -> LanguageCode
     ensures { λ r. ⌜ r ≡ languageOf (first ∷ second ∷ []) ⌝ }
 {
     text::language::language([first, second])
+}
+
+// What is kept of a track's times, and whether they went past the play time (0 or 1).
+#[repr(C)]
+pub struct CapAnswer {
+    pub start_frame: Frame,
+    pub duration_frames: Frame,
+    pub past_playtime: u8,
+}
+
+// An item that was drawn, or none (found is 0): its type byte, the place and length of its string, and where the next draw is from.
+#[repr(C)]
+pub struct DrawAnswer {
+    pub found: u8,
+    pub kind: u8,
+    pub place: usize,
+    pub len: usize,
+    pub next: usize,
+    pub left: usize,
+}
+
+fn flag(test: bool) -> u8
+    ensures { λ r. ⌜ r ≡ flagOf test ⌝ }
+{
+    if test { 1 } else { 0 }
+}
+
+fn cap_answer(capped: Capped) -> CapAnswer
+    ensures { λ r. ⌜ r ≡ capAnswer capped ⌝ }
+{
+    let start_frame = capped.start_frame;
+    let duration_frames = capped.duration_frames;
+    CapAnswer {
+        start_frame,
+        duration_frames,
+        past_playtime: flag(capped.past_playtime),
+    }
+}
+
+fn draw_answer(drawn: Drawn) -> DrawAnswer
+    ensures { λ r. ⌜ r ≡ drawAnswer drawn ⌝ }
+{
+    DrawAnswer {
+        found: flag(drawn.found),
+        kind: drawn.kind,
+        place: drawn.place,
+        len: drawn.len,
+        next: drawn.next,
+        left: drawn.left,
+    }
+}
+
+// The frame number of a timecode.
+#[no_mangle]
+pub extern "C" fn sacd_frame_number(time: Timecode) -> Frame
+    ensures { λ r. ⌜ r ≡ frameNumber time ⌝ }
+{
+    area::timecode::frame_number(time)
+}
+
+// A track's times as they are if they end within the play time, else capped at it.
+#[no_mangle]
+pub extern "C" fn sacd_cap(start: Frame, duration: Frame, playtime: Frame) -> CapAnswer
+    ensures { λ r. ⌜ r ≡ capAnswer (capOf start duration playtime) ⌝ }
+{
+    cap_answer(area::cap::cap(start, duration, playtime))
+}
+
+// The next item of a track's text from a place on, of so many that are left.
+#[no_mangle]
+pub extern "C" fn sacd_draw_at(table: &[u8], next: usize, left: usize) -> DrawAnswer
+    ensures { λ r. ⌜ r ≡ drawAnswer (drawAt (now (table .entry)) next left) ⌝ }
+{
+    draw_answer(area::items::draw_at(table, next, left))
+}
+
+// Reads a lone table: its area's record, its tracks into a list of at least 255, its warnings into at least 766 words.
+#[no_mangle]
+pub extern "C" fn sacd_read_table(
+    table: &[u8],
+    tracks: &mut [Track],
+    words: &mut [u32],
+) -> TableAnswer
+    ensures { λ r. ⌜ (r ≡ loneAnswer (loneOf (now (table .entry)) (length (now (tracks .entry))) (length (now (words .entry))))) × ((now (tracks .exit) ≡ loneTracks (loneOf (now (table .entry)) (length (now (tracks .entry))) (length (now (words .entry)))) (now (tracks .entry))) × (now (words .exit) ≡ loneWords (loneOf (now (table .entry)) (length (now (tracks .entry))) (length (now (words .entry)))) (now (words .entry)))) ⌝ }
+{
+    area::lone::read_table(table, tracks, words)
+}
+
+// Decodes a text of an area, by its item index, to the start of a page. A refusal changes nothing.
+#[no_mangle]
+pub extern "C" fn sacd_decode_area_text(
+    table: &[u8],
+    area: Area,
+    item: u32,
+    page: &mut [u8],
+) -> DecodeAnswer
+    ensures answer { λ r. ⌜ r ≡ textAnswer (areaTextIn (now (table .entry)) area item) (length (now (page .entry))) ⌝ }
+    ensures filled { λ r. ⌜ now (page .exit) ≡ textPage (areaTextIn (now (table .entry)) area item) (now (page .entry)) ⌝ }
+{
+    area::decode::decode_area_text(table, area, item, page)
+}
+
+// Decodes a text of a track, by its number and item index, to the start of a page. A refusal changes nothing.
+#[no_mangle]
+pub extern "C" fn sacd_decode_track_text(
+    table: &[u8],
+    area: Area,
+    tracks: &[Track],
+    number: u32,
+    item: u32,
+    page: &mut [u8],
+) -> DecodeAnswer
+    ensures { λ r. ⌜ (r ≡ textAnswer (trackTextBy (now (table .entry)) area (now (tracks .entry)) number item) (length (now (page .entry)))) × (now (page .exit) ≡ textPage (trackTextBy (now (table .entry)) area (now (tracks .entry)) number item) (now (page .entry))) ⌝ }
+{
+    area::decode::decode_track_text(table, area, tracks, number, item, page)
 }

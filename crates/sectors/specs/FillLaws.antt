@@ -6,7 +6,7 @@ use mathlib.Core.Path.{_≡_, sym, _∙_, ap}
 use mathlib.Core.List.{List, [], _∷_, _++_, append-assoc}
 use borrow.Rule.Slice.PartMut.{putMid}
 use lib.ListN.{length, take, drop, getD, set, length-append, length-take, length-drop, take-append-drop, drop-of-length-le}
-use lib.Seq.{sets, sets-eq, take-nil, drop-nil, take-take, length-take-le, take-append-le, drop-append-le, drop-append-add, take-append-seam, drop-drop, drop-cons, set-at, take-at, drop-at, getD-take, getD-drop}
+use lib.Seq.{sets, sets-eq, take-all, take-nil, drop-nil, take-take, length-take-le, take-append-le, drop-append-le, drop-append-add, take-append-seam, drop-drop, drop-cons, set-at, take-at, drop-at, getD-take, getD-drop}
 use Rattle.sectors.specs.Fill.{part, fill, startAt}
 
 -- where `&l[at..]` begins, of bytes
@@ -38,6 +38,11 @@ module _ {A : Type 0} where
   -- a part inside is as long as asked
   pub part-length : (at n : ℕ) (l : List A) → at + n ≤ length l → length (part at n l) ≡ n
   part-length at n l h = omega (arith, part-size at n l)
+
+  -- a part that reaches from the start past the end is the whole
+  pub part-all : (n : ℕ) (l : List A) → length l ≤ n → part 0 n l ≡ l
+  unfolding part
+  part-all n l h = take-all n l h
 
   pub part-at : (at n : ℕ) (l : List A) (i : ℕ) (d : A) → i < n → getD (part at n l) i d ≡ getD l (at + i) d
   unfolding part

@@ -1,7 +1,8 @@
-//! Times the static library beside memcpy, memcmp and the customer's `digest`, `decode_string`
-//! and `string_bytes`, in one process and over the same warm buffers. Each time is the best of
+//! Times the static library beside memcpy, memcmp and the customer's `digest`, `decode_string`,
+//! `string_bytes` and `read_area`, in one process and over the same warm buffers. Each time is the best of
 //! many rounds, in which the two take turns. Build it for release.
 
+mod area;
 mod clock;
 mod text;
 
@@ -141,4 +142,5 @@ fn main() {
     fingerprints();
     text::decoding();
     text::strings();
+    area::tables();
 }

@@ -15,7 +15,7 @@ struct Text {
 }
 
 /// No control: for those the Rust copies a text once more.
-fn ascii(rng: &mut Rng) -> u8 {
+pub fn ascii(rng: &mut Rng) -> u8 {
     0x20 + rng.below(0x60) as u8
 }
 
@@ -24,7 +24,7 @@ fn high(rng: &mut Rng) -> u8 {
 }
 
 /// One high byte in eight.
-fn mixed(rng: &mut Rng) -> u8 {
+pub fn mixed(rng: &mut Rng) -> u8 {
     match rng.below(8) {
         0 => high(rng),
         _ => ascii(rng),

@@ -3,25 +3,40 @@
 //! Exit status: 0 all answers are equal; 1 some differ; 2 bad usage, or a class of cases is
 //! empty, so that the comparison would say nothing about it.
 
+mod draws;
 mod extent;
 mod fields;
 mod headers;
+mod lone;
 mod numbers;
+mod plain;
 mod rust;
 mod sectors;
+mod shapes;
 mod strings;
+mod tables;
 mod tally;
+mod texts;
+mod times;
+mod values;
 
+use draws::Draws;
 use extent::Extent;
 use fields::Fields;
 use generate::Rng;
+use generate::table;
 use numbers::Numbers;
 use sectors::Sectors;
+use shapes::Shapes;
 use std::process::ExitCode;
 use strings::Strings;
+use tables::Tables;
 use tally::Kind;
+use texts::Texts;
+use times::Times;
 
-const USAGE: &str = "usage: compare [--short] [--seed N] [--cases N] [--headers N] [--texts N]";
+const USAGE: &str =
+    "usage: compare [--short] [--seed N] [--cases N] [--headers N] [--texts N] [--tables N]";
 
 struct Options {
     seed: u64,
@@ -29,20 +44,28 @@ struct Options {
     cases: u64,
     /// Headers for the audit, at least.
     headers: u64,
-    /// Random strings, as many texts to decode, and as many fields.
+    /// Random strings, as many texts to decode, and as many fields, draws and times.
     texts: u64,
+    /// Random lone tables, beside those at the edges.
+    tables: u64,
 }
 
 fn options() -> Option<Options> {
-    let mut options = Options { seed: 1, cases: 20_000, headers: 1_000_000, texts: 100_000 };
+    let mut options =
+        Options { seed: 1, cases: 20_000, headers: 1_000_000, texts: 100_000, tables: 60_000 };
     let mut words = std::env::args().skip(1);
     while let Some(word) = words.next() {
         match word.as_str() {
-            "--short" => (options.cases, options.headers, options.texts) = (2_000, 20_000, 5_000),
+            "--short" => {
+                let Options { seed, .. } = options;
+                options =
+                    Options { seed, cases: 2_000, headers: 20_000, texts: 5_000, tables: 1_500 }
+            }
             "--seed" => options.seed = words.next()?.parse().ok()?,
             "--cases" => options.cases = words.next()?.parse().ok()?,
             "--headers" => options.headers = words.next()?.parse().ok()?,
             "--texts" => options.texts = words.next()?.parse().ok()?,
+            "--tables" => options.tables = words.next()?.parse().ok()?,
             _ => return None,
         }
     }
@@ -62,7 +85,7 @@ fn run(options: &Options) -> Vec<Kind> {
         numbers.cases(&mut rng);
     }
     headers::cases(&mut headers, &mut Rng::new(options.seed), options.headers);
-    let (fields, strings) = texts(options);
+    let (fields, strings, times) = texts(options);
     let Extent { sector_count, contains } = extent;
     let Sectors { read, compare, fingerprint, audit } = sectors;
     let Numbers { byte, be16, be32, product, digest } = numbers;
@@ -71,27 +94,59 @@ fn run(options: &Options) -> Vec<Kind> {
     let sectors = [sector_count, contains, read, compare, fingerprint, audit, headers];
     let numbers = [product, digest, byte, be16, be32];
     let texts = [string_bytes, charset, decode, fixed_bytes, fixed_text, language];
-    sectors.into_iter().chain(numbers).chain(texts).collect()
+    let times = [times.frame_number, times.cap];
+    let below = sectors.into_iter().chain(numbers).chain(texts).chain(times);
+    below.chain(areas(options)).collect()
 }
 
-fn texts(options: &Options) -> (Fields, Strings) {
-    let (mut fields, mut strings) = (Fields::new(), Strings::new());
+fn texts(options: &Options) -> (Fields, Strings, Times) {
+    let (mut fields, mut strings, mut times) = (Fields::new(), Strings::new(), Times::new());
     fields.all();
     strings.all();
+    times.all();
     for case in 0..options.texts {
         let mut rng = Rng::of_case(options.seed, case);
         fields.cases(&mut rng);
         strings.cases(&mut rng);
+        times.cases(&mut rng);
     }
-    (fields, strings)
+    (fields, strings, times)
+}
+
+/// Tables at the edges and at random; their texts; and draws.
+fn areas(options: &Options) -> Vec<Kind> {
+    let (mut tables, mut texts, mut draws) = (Tables::new(), Texts::new(), Draws::new());
+    let plans = table::plans();
+    for case in 0..plans.len() as u64 + options.tables {
+        let mut rng = Rng::of_case(options.seed, case);
+        let table = match plans.get(case as usize) {
+            Some(plan) => table::table(&mut rng, plan),
+            None => table::any_table(&mut rng),
+        };
+        if let Some(lone) = tables.case(&mut rng, &table) {
+            texts.cases(&mut rng, &table, &lone);
+            draws.cases(&table, &lone);
+        }
+        if rng.below(16) == 0 {
+            tables.odd_case(&mut rng, &table);
+        }
+    }
+    tables.finish();
+    for case in 0..options.texts {
+        draws.any_case(&mut Rng::of_case(options.seed, case));
+    }
+    let Tables { read, shapes, values } = tables;
+    let Shapes { walk, head, tracks, items, .. } = shapes;
+    let Texts { area, track, lies } = texts;
+    vec![read, walk, head, tracks, items, values.kind(), area, track, lies, draws.text, draws.any]
 }
 
 fn print(kinds: &[Kind]) {
-    println!("{:<16}{:>9}{:>10}{:>9}{:>13}", "kind", "cases", "accepted", "refused", "differences");
+    println!("{:<17}{:>9}{:>10}{:>9}{:>13}", "kind", "cases", "accepted", "refused", "differences");
     for kind in kinds {
         let Kind { name, cases, refused, differences, .. } = kind;
         let accepted = cases - refused;
-        println!("{name:<16}{cases:>9}{accepted:>10}{refused:>9}{differences:>13}");
+        println!("{name:<17}{cases:>9}{accepted:>10}{refused:>9}{differences:>13}");
     }
     println!("of them");
     for kind in kinds {
@@ -104,7 +159,8 @@ fn main() -> ExitCode {
         eprintln!("{USAGE}");
         return ExitCode::from(2);
     };
-    println!("seed {}, {} images, {} texts", options.seed, options.cases, options.texts);
+    let Options { seed, cases, texts, tables, .. } = options;
+    println!("seed {seed}, {cases} images, {texts} texts, {tables} tables");
     let kinds = run(&options);
     print(&kinds);
     let mut status = 0;

@@ -76,12 +76,12 @@ fn first_16(field: &[u8]) -> &[u8] {
 }
 
 /// The characters of a text as bytes; 0 for one that Latin-1 does not have.
-fn one_a_character(text: &str) -> Vec<u8> {
+pub fn one_a_character(text: &str) -> Vec<u8> {
     text.chars().map(|c| u8::try_from(c).unwrap_or(0)).collect()
 }
 
 /// A text in `N` bytes, zero past it, and its length.
-fn padded<const N: usize>(text: &[u8]) -> ([u8; N], u8) {
+pub fn padded<const N: usize>(text: &[u8]) -> ([u8; N], u8) {
     let mut bytes = [0; N];
     bytes[..text.len()].copy_from_slice(text);
     (bytes, text.len() as u8)

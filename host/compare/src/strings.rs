@@ -31,9 +31,9 @@ struct Part<'a> {
 
 /// What decoding leaves: its answer and the whole page.
 #[derive(Debug, PartialEq)]
-struct Decoded<'a> {
-    answer: DecodeAnswer,
-    page: Buffer<'a>,
+pub struct Decoded<'a> {
+    pub answer: DecodeAnswer,
+    pub page: Buffer<'a>,
 }
 
 #[derive(Debug)]
@@ -165,10 +165,15 @@ fn count_string(kind: &mut Kind, table: &[u8], place: usize, length: usize) {
     kind.class_if("no table", table.is_empty());
 }
 
-/// The text by the Rust, or its presence alone in sets 3 to 6; refusals 9 and 10 by the document.
+/// The text by the Rust.
 fn expected_decode(bytes: &[u8], code: u8, page: &mut [u8]) -> DecodeAnswer {
+    expected_text(rust::decode(bytes, code).as_deref(), code, page)
+}
+
+/// A text of the Rust, or its presence alone in sets 3 to 6; refusals 9 and 10 by the document.
+pub fn expected_text(text: Option<&str>, code: u8, page: &mut [u8]) -> DecodeAnswer {
     let refused = |refusal| DecodeAnswer { refusal, len: 0 };
-    let Some(text) = rust::decode(bytes, code) else { return refused(0) };
+    let Some(text) = text else { return refused(0) };
     if (3..=6).contains(&(code % 8)) {
         return refused(9);
     }

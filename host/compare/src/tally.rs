@@ -41,6 +41,9 @@ impl Kind {
 
     /// Counts so many cases for a class.
     pub fn class(&mut self, class: &str, cases: usize) {
+        if cases == 0 {
+            return;
+        }
         for (name, count) in &mut self.classes {
             *count += if *name == class { cases as u64 } else { 0 };
         }
@@ -68,6 +71,8 @@ fn refusal_class(refusal: u8) -> &'static str {
         0 => "accepted",
         1 => "refusal 1",
         2 => "refusal 2",
+        6 => "refusal 6",
+        7 => "refusal 7",
         8 => "refusal 8",
         9 => "refusal 9",
         10 => "refusal 10",

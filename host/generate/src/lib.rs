@@ -1,11 +1,12 @@
-//! A deterministic generator of disc images, of texts and of questions about them: the same seed
-//! gives the same cases everywhere.
+//! A deterministic generator of disc images, of area tables, of texts and of questions about
+//! them: the same seed gives the same cases everywhere.
 
 pub mod header;
 pub mod image;
 pub mod layout;
 pub mod question;
 mod rng;
+pub mod table;
 pub mod text;
 
 pub use rng::Rng;

@@ -1,6 +1,7 @@
 //! The C interface of libsacd.a, as the crate `sacd` of the repository exports it.
 //! A slice is a pointer and then a length.
 
+use crate::area::{Area, Capped, Drawn, Frame, TableAnswer, Timecode, Track};
 use crate::{AuditAnswer, Comparison, DecodeAnswer, Fingerprint, FixedText, LanguageCode};
 
 unsafe extern "C" {
@@ -49,4 +50,34 @@ unsafe extern "C" {
     pub fn sacd_fixed_bytes(field: *const u8, field_len: usize) -> FixedText;
     pub fn sacd_fixed_text(field: *const u8, field_len: usize) -> FixedText;
     pub safe fn sacd_language(first: u8, second: u8) -> LanguageCode;
+    pub fn sacd_read_table(
+        table: *const u8,
+        table_len: usize,
+        tracks: *mut Track,
+        tracks_len: usize,
+        words: *mut u32,
+        words_len: usize,
+    ) -> TableAnswer;
+    pub fn sacd_decode_area_text(
+        table: *const u8,
+        table_len: usize,
+        area: Area,
+        item: u32,
+        page: *mut u8,
+        page_len: usize,
+    ) -> DecodeAnswer;
+    pub fn sacd_decode_track_text(
+        table: *const u8,
+        table_len: usize,
+        area: Area,
+        tracks: *const Track,
+        tracks_len: usize,
+        number: u32,
+        item: u32,
+        page: *mut u8,
+        page_len: usize,
+    ) -> DecodeAnswer;
+    pub fn sacd_draw_at(table: *const u8, table_len: usize, next: usize, left: usize) -> Drawn;
+    pub safe fn sacd_frame_number(time: Timecode) -> Frame;
+    pub safe fn sacd_cap(start: Frame, duration: Frame, playtime: Frame) -> Capped;
 }

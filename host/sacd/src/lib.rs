@@ -4,6 +4,7 @@
 //! that a caller must see to. A format is a number, so that foreign ones can be asked for,
 //! or a [`Format`]. A refusal is a number ([`refusal`]), 0 when there is none.
 
+pub mod area;
 mod ffi;
 mod text;
 
@@ -18,7 +19,11 @@ pub mod refusal {
     pub const FOREIGN_FORMAT: u8 = 1;
     /// A lent buffer is too short.
     pub const SHORT_BUFFER: u8 = 2;
-    /// A sector is not in the image.
+    /// The table yields no area.
+    pub const NO_AREA: u8 = 6;
+    /// The table has 0 bytes, over 262,144 or no multiple of 2,048.
+    pub const ODD_TABLE: u8 = 7;
+    /// A sector is not in the image, or there is no such track, item or area.
     pub const NO_SUCH_ENTRY: u8 = 8;
     /// The text is of set 3, 4, 5 or 6, whose mappings are not held.
     pub const SET_NOT_HELD: u8 = 9;

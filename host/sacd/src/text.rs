@@ -13,7 +13,7 @@ pub struct DecodeAnswer {
 
 /// The text of a fixed field, one byte a character.
 #[repr(C)]
-#[derive(Clone, Copy, Debug, PartialEq, Eq)]
+#[derive(Clone, Copy, Debug, Default, PartialEq, Eq)]
 pub struct FixedText {
     /// The text, and zeros past it.
     pub bytes: [u8; 16],
@@ -29,7 +29,7 @@ impl FixedText {
 
 /// A language code, one byte a character.
 #[repr(C)]
-#[derive(Clone, Copy, Debug, PartialEq, Eq)]
+#[derive(Clone, Copy, Debug, Default, PartialEq, Eq)]
 pub struct LanguageCode {
     /// The code, and zeros past it.
     pub bytes: [u8; 2],

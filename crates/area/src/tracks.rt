@@ -1,0 +1,59 @@
+// The tracks of an area in a lent list.
+ghost use mathlib.Core.Path.{_≡_};
+ghost use mathlib.Core.List.{map};
+ghost use lib.ListN.{set, getD};
+ghost use lib.Seq.{sets};
+ghost use Rattle.area.specs.Lent.{counted};
+ghost use Rattle.area.specs.Table.{tracksIn, warningsIn};
+ghost use Rattle.area.specs.Track.{noTrack};
+ghost use Rattle.area.specs.Warning.{wordOf};
+use crate::table::TableHead;
+use crate::table::next_track;
+use crate::table::track_count;
+use crate::track::Track;
+use crate::track::no_track;
+
+// Stores a track in a list, if its place is there.
+fn put_track(tracks: &mut [Track], at: usize, track: Track)
+    ensures { λ r. ⌜ now (tracks .exit) ≡ set (now (tracks .entry)) at track ⌝ }
+{
+    if at < tracks.len() {
+        tracks[at] = track;
+    }
+}
+
+// The track at a place of a list; the zero record past its end.
+pub fn track_at(tracks: &[Track], at: usize) -> Track
+    ensures { λ r. ⌜ r ≡ getD (now (tracks .entry)) at noTrack ⌝ }
+{
+    if at < tracks.len() {
+        return tracks[at];
+    }
+    no_track()
+}
+
+// Fills a list with the tracks of a table from a place on, and words with their warnings from a count on: the count of words then.
+// What does not fit is not written.
+pub fn fill_tracks(
+    lent: &[u8],
+    head: TableHead,
+    tracks: &mut [Track],
+    base: u32,
+    words: &mut [u32],
+    count: usize,
+) -> usize
+    ensures { λ r. ⌜ (r ≡ counted (now (words .entry)) count (warningsIn (now (lent .entry)) head)) × ((now (tracks .exit) ≡ sets (now (tracks .entry)) base (tracksIn (now (lent .entry)) head)) × (now (words .exit) ≡ sets (now (words .entry)) count (map wordOf (warningsIn (now (lent .entry)) head)))) ⌝ }
+{
+    let n = track_count(head);
+    let mut at = base as usize;
+    let mut c = count;
+    let mut i = 0;
+    while i < n {
+        let t = next_track(lent, head, i, words, c);
+        put_track(tracks, at, t.track);
+        c = t.count;
+        at += 1;
+        i += 1;
+    }
+    c
+}

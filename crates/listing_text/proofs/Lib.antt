@@ -1,0 +1,3 @@
+mod Writing
+mod EntryLines
+mod TrackTurns

@@ -1,0 +1,18 @@
+-- `sacd::sacd_draw_at` meets its contract. Assumes nothing.
+use mathlib.Core.Path.{ap, _∙_}
+use Rattle.sacd.specs.Answers.{drawAnswer}
+use borrow.Author.Needs.{needs}
+use Rattle.sacd.proofs.sacd_draw_at.Statement.{statement}
+use Rattle.sacd.proofs.sacd_draw_at.Tie as tie
+
+draw-at-requires : tie.Need-draw-at-requires
+draw-at-requires c κs = search needs
+
+draw-answer-requires : tie.Need-draw-answer-requires
+draw-answer-requires c κs = search needs
+
+returns : tie.Need-returns
+returns c = c .draw-answer .ensures ∙ ap drawAnswer (c .before .draw-at .ensures)
+
+pub sacd-draw-at-spec : {M : Type 1} → statement M
+sacd-draw-at-spec = tie.close (tie.spec draw-at-requires draw-answer-requires returns)

@@ -1,0 +1,104 @@
+//! Stores tables and what the customer's Rust answers to them, for the programs `replay` and
+//! `stored_tables`, which need no Rust. `--check` asks the Rust again about what is stored.
+//!
+//! Exit status: 0 all is written, or is what the Rust answers; 1 the Rust answers something else;
+//! 2 bad usage, or a file that cannot be read or written.
+
+mod listing;
+mod named;
+mod runs;
+
+use generate::Rng;
+use generate::table::any_table;
+use std::fs;
+use std::io::{Error, ErrorKind, Result};
+use std::path::Path;
+use std::process::ExitCode;
+
+const USAGE: &str = "usage: sample [--check] CRATES";
+
+/// Tables at random beside those with a name, and the bytes that one is stored in at most.
+const RANDOM: usize = 150;
+const STORED: usize = 1200;
+
+/// The folder of the tables with a name, and the file that lists their names.
+const DATA: &str = "stored_tables/data";
+const NAMES: &str = "stored_tables/args";
+const TABLES: &str = "replay/stdin";
+/// The files of the answers.
+const NAMED_ANSWERS: &str = "stored_tables/stdout";
+const ANSWERS: &str = "replay/stdout";
+
+/// Tables at random that are stored in few bytes.
+fn random() -> impl Iterator<Item = Vec<u8>> {
+    let tables = (0..).map(|case| any_table(&mut Rng::of_case(1, case)));
+    let listed = tables.filter(|table| table.len() <= listing::MOST);
+    listed.filter(|table| runs::runs(table).len() <= STORED).take(RANDOM)
+}
+
+/// Writes the tables.
+fn write_tables(crates: &Path) -> Result<()> {
+    let mut named = named::named();
+    let listed = named.iter().map(|(_, table)| table.clone());
+    let listed = listed.filter(|table| table.len() <= listing::MOST);
+    let runs: Vec<_> = listed.chain(random()).flat_map(|table| runs::runs(&table)).collect();
+    fs::create_dir_all(crates.join("replay"))?;
+    fs::write(crates.join(TABLES), runs)?;
+    named.iter_mut().for_each(|(name, _)| name.push_str(".table"));
+    named.sort();
+    let names: String = named.iter().map(|(name, _)| name.clone() + "\n").collect();
+    fs::create_dir_all(crates.join(DATA))?;
+    fs::write(crates.join(NAMES), names)?;
+    named.iter().try_for_each(|(name, table)| fs::write(crates.join(DATA).join(name), table))
+}
+
+/// The files of the answers, and what the Rust answers to the tables that are stored.
+fn answers(crates: &Path) -> Result<[(&'static str, String); 2]> {
+    let tables = runs::tables(&fs::read(crates.join(TABLES))?);
+    let tables = tables.ok_or_else(|| Error::new(ErrorKind::InvalidData, "no list of tables"))?;
+    let numbered = tables.iter().enumerate();
+    let answers = numbered.map(|(i, table)| answer(&format!("table {}", i + 1), table));
+    let names = fs::read_to_string(crates.join(NAMES))?;
+    let named = names.lines().map(|name| {
+        let table = fs::read(crates.join(DATA).join(name))?;
+        Ok(answer(name, &table))
+    });
+    Ok([(ANSWERS, answers.collect()), (NAMED_ANSWERS, named.collect::<Result<_>>()?)])
+}
+
+/// A table's name, on a line, and its listing.
+fn answer(name: &str, table: &[u8]) -> String {
+    format!("{name}\n{}", listing::listing(table))
+}
+
+fn write(crates: &Path) -> Result<u8> {
+    write_tables(crates)?;
+    for (file, answers) in answers(crates)? {
+        fs::write(crates.join(file), answers)?;
+    }
+    Ok(0)
+}
+
+fn check(crates: &Path) -> Result<u8> {
+    let mut status = 0;
+    for (file, answers) in answers(crates)? {
+        if fs::read(crates.join(file))? != answers.as_bytes() {
+            println!("sample: {file} is not what the Rust answers");
+            status = 1;
+        }
+    }
+    Ok(status)
+}
+
+fn main() -> ExitCode {
+    let words: Vec<_> = std::env::args().skip(1).collect();
+    let result = match &words[..] {
+        [word, crates] if word == "--check" => check(Path::new(crates)),
+        [crates] if !crates.starts_with('-') => write(Path::new(crates)),
+        _ => Err(Error::new(ErrorKind::InvalidInput, USAGE)),
+    };
+    ExitCode::from(result.unwrap_or_else(|error| {
+        eprintln!("sample: {error}");
+        2
+    }))
+}
