@@ -1,4 +1,5 @@
-// Published vectors of FNV-1a, and cards of the header audit, the fingerprint and the texts, written one to a line.
+// Published vectors of FNV-1a, and cards of the header audit, the fingerprint, the texts and the areas, written one to a line.
+mod areas;
 mod texts;
 
 use libc::STDOUT_FILENO;
@@ -106,4 +107,5 @@ fn main() {
     headers();
     refusals();
     texts::cards();
+    areas::cards();
 }
