@@ -11,6 +11,9 @@ use crate::warning::TRACK_TEXT_TYPE_UNKNOWN;
 use sectors::number::be16_at;
 use text::string::string_bytes;
 
+// What text offset 0 is warned of: nothing.
+const SILENT: u8 = 0;
+
 // The places of a track's texts by item index, and whether a nonempty item of unknown type was met.
 pub(crate) struct ItemsKept {
     pub places: [TextPlace; TRACK_TEXTS],
@@ -110,7 +113,7 @@ pub(crate) fn track_text(table: &[u8], block: u32, i: usize) -> TrackText
     }
     let offset = be16_at(table, block as usize + 8 + 2 * i);
     if offset == 0 {
-        return no_text(0);
+        return no_text(SILENT);
     }
     let at = block as usize + offset as usize;
     if table.len() < at + 4 {
