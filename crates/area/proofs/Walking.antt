@@ -1,20 +1,16 @@
 -- The walk over a table's sub-structures, turn by turn: what is left of it leads to the table's chain. Assumes nothing.
 use mathlib.Core.Path.{_≡_, refl, sym, ap, _∙_}
-use mathlib.Core.Bool.{Bool, true, false, cond}
 use mathlib.Core.List.{List}
 use Prim.Native.Nat.{ℕ, zero, suc, _+_, _*_, _/_, _≤_, _<_}
 use native.Mathlib.Omega.{arith}
 use lib.ListN.{length}
 use borrow.Author.Tests.{le-leb, lt-leb, eq-eqb, ne-eqb}
 use Rattle.sectors.specs.Format.{sectorSize}
+use Rattle.area.specs.TestLaws.{cond-same}
 use Rattle.area.specs.Chain.{structureAt, sectorsOf, noted, walkFrom, nothingKept, chainOf}
 use Rattle.area.specs.declared.chain.Chain.{Chain}
 use Rattle.area.specs.declared.chain.Structure.{Structure}
 use Rattle.area.specs.declared.chain.Structure.the-variants.{TrackText, IsrcGenre, Access, TrackList1, TrackList2, Other}
-
-cond-same : {A : Type 0} (t : Bool) (x : A) → cond t x x ≡ x
-cond-same true x = refl
-cond-same false x = refl
 
 -- past the last eight bytes the walk ends
 walk-end : (more : ℕ) (table : List ℕ) (at : ℕ) (c : Chain) → length table < at + 8 → walkFrom more table at c ≡ c

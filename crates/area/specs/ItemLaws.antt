@@ -3,36 +3,34 @@ use Prim.Native.Nat.{ℕ, zero, suc, _+_, _≤_, _<_}
 use mathlib.Core.Bool.{Bool, true, false, cond, false≢true, true≢false}
 use mathlib.Core.List.{List, [], _∷_}
 use mathlib.Core.Path.{_≡_, refl, sym, ap, subst, _∙_}
-use native.Mathlib.Nat.{add-zero}
-use native.Mathlib.Numerals.{add-one}
 use native.Mathlib.Omega.{arith}
 use borrow.Author.Tests.{eq-eqb, ne-eqb, le-leb, lt-leb, leb-true, leb-false}
 use lib.Dec.{leb, ltb}
-use lib.ListN.{length, getD, drop-of-length-le}
-use lib.Seq.{drop-cons}
+use lib.ListN.{length, getD}
 use Rattle.sectors.specs.Fill.{part}
 use Rattle.sectors.specs.Number.{beAt}
 use Rattle.text.specs.String.{stringAt}
 use Rattle.text.specs.StringLaws.{string-part}
-use Rattle.area.specs.Items.{Item, itemAt, zeros, nonzeroAt, nextItem, itemsFrom, drawnNone, drawAt, itemOf}
+use Rattle.text.specs.WhileLaws.{scan-more, scan-stop, scan-end}
+use Rattle.area.specs.Items.{Item, itemAt, isZero, nonzeroAt, nextItem, itemsFrom, drawnNone, drawAt, itemOf}
 use Rattle.area.specs.declared.items.Drawn.{Drawn}
 
 module _ (table : List ℕ) where
   module _ (at : ℕ) where
     -- a zero byte is passed over
     pub nonzero-more : at < length table → getD table at 0 ≡ 0 → nonzeroAt table at ≡ nonzeroAt table (at + 1)
-    unfolding nonzeroAt zeros
-    nonzero-more h z = rw (add-one, drop-cons table at 0) (simp (eq-eqb _ _ z) (omega arith))
+    unfolding nonzeroAt isZero
+    nonzero-more h z = sym (scan-more isZero table at 0 h (eq-eqb _ _ z) refl)
 
     -- a nonzero byte is found
     pub nonzero-found : at < length table → (getD table at 0 ≡ 0 → ⊥) → nonzeroAt table at ≡ at
-    unfolding nonzeroAt zeros
-    nonzero-found h n = rw (drop-cons table at 0) (simp (ne-eqb _ _ n, add-zero))
+    unfolding nonzeroAt isZero
+    nonzero-found h n = sym (scan-stop isZero table at 0 h (ne-eqb _ _ n) refl)
 
     -- none follows at the table's end
     pub nonzero-end : length table ≤ at → nonzeroAt table at ≡ at
-    unfolding nonzeroAt zeros
-    nonzero-end h = rw (drop-of-length-le table h) (add-zero at)
+    unfolding nonzeroAt
+    nonzero-end h = sym (scan-end isZero table at h refl)
 
     -- of no items there are none
     pub items-none : itemsFrom table at 0 ≡ []

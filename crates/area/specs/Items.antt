@@ -1,11 +1,12 @@
 -- The items of a track's text (01, "Area"). Assumes nothing.
 use Prim.Native.Nat.{ℕ, zero, suc, _+_}
-use mathlib.Core.Bool.{true, false, cond}
+use mathlib.Core.Bool.{Bool, true, false, cond}
 use mathlib.Core.List.{List, [], _∷_}
 use lib.Dec.{leb, ltb, eqb}
 use lib.ListN.{length, drop}
 use Rattle.sectors.specs.Number.{beAt}
 use Rattle.text.specs.String.{stringAt}
+use Rattle.text.specs.While.{takeWhile}
 use Rattle.area.specs.declared.items.Drawn.{Drawn}
 
 -- "An item is type byte, ignored byte, string.": its type, and where its string stands
@@ -18,14 +19,13 @@ pub record Item : Type 0 where
 unfoldable pub itemAt : List ℕ → ℕ → Item
 itemAt table at = record { kind = beAt table at 1; place = at + 2; len = length (stringAt table (at + 2)) }
 
--- how many zero bytes a list begins with
-unfoldable pub zeros : List ℕ → ℕ
-zeros [] = 0
-zeros (b ∷ bs) = cond (eqb b 0) (suc (zeros bs)) 0
+-- a "zero byte"
+unfoldable pub isZero : ℕ → Bool
+isZero b = eqb b 0
 
 -- "the next nonzero byte" from a place on; the table's end (or the place, if it is past it) where none follows
 unfoldable pub nonzeroAt : List ℕ → ℕ → ℕ
-nonzeroAt table from = from + zeros (drop from table)
+nonzeroAt table from = from + length (takeWhile isZero (drop from table))
 
 -- "The next item begins at the next nonzero byte.": behind the item at a place
 unfoldable pub nextItem : List ℕ → ℕ → ℕ

@@ -1,6 +1,6 @@
 -- Laws of decoding a text that is asked for: what its answer and its page are, by what was found; when it is refused. Assumes nothing.
 use mathlib.Core.Path.{_≡_, refl, sym, ap, _∙_}
-use mathlib.Core.Bool.{Bool, true, false, cond, _||_}
+use mathlib.Core.Bool.{true, false, _||_}
 use mathlib.Core.List.{List, []}
 use Prim.Native.Nat.{ℕ, _≤_}
 use native.Mathlib.Omega.{arith}
@@ -13,6 +13,7 @@ use Rattle.text.specs.StringLaws.{string-past}
 use Rattle.text.specs.Decode.{decodeOf, decodeInto}
 use Rattle.text.specs.DecodeLaws.{refusing-is}
 use Rattle.text.specs.declared.decode.DecodeAnswer.{DecodeAnswer}
+use Rattle.area.specs.TestLaws.{cond-same}
 use Rattle.area.specs.Limits.{maxTableBytes, maxTracks, tableSize, tableBytes}
 use Rattle.area.specs.Area.{areaTexts}
 use Rattle.area.specs.TrackText.{trackTexts}
@@ -40,11 +41,9 @@ large-not-short bytes area h = le-ltb bytes (tableSize (area .origin .«toc_sect
 -- ---- a text placed at or past its table's end is absent
 pub past-absent : (lent : List ℕ) (area : Area) (place : ℕ) → tableSize (area .origin .«toc_sectors») ≤ place → textAt lent area place ≡ []
 unfolding textAt tableBytes
-past-absent lent area place h = rw (string-past (tableBytes (area .origin .«toc_sectors») lent) place (omega (arith, part-size 0 (tableSize (area .origin .«toc_sectors»)) lent))) (go (eqb place 0))
-  where
-    go : (t : Bool) → cond {A = List ℕ} t [] [] ≡ []
-    go true = refl
-    go false = refl
+past-absent lent area place h =
+    rw (string-past (tableBytes (area .origin .«toc_sectors») lent) place (omega (arith, part-size 0 (tableSize (area .origin .«toc_sectors»)) lent)))
+    (cond-same (eqb place 0) [])
 
 -- ---- an area's text is refused 2 exactly if too few bytes are lent; else 8 exactly if there is no such area or item
 module _ (lent : List ℕ) (area : Area) (item : ℕ) where

@@ -1,7 +1,7 @@
 -- `area::track_text::items_kept` meets its contract: what is kept of the items that are left, over those kept before, stays the same at
 -- each turn of the walk, and of the search for the next item within it. Assumes nothing.
 use mathlib.Core.Path.{_≡_, refl, sym, ap, _∙_}
-use mathlib.Core.Bool.{Bool, true, false, cond}
+use mathlib.Core.Bool.{cond}
 use mathlib.Core.List.{List, []}
 use Prim.Native.Nat.{ℕ, suc, _+_, _-_, _≤_, _<_}
 use native.Mathlib.Omega.{arith}
@@ -13,6 +13,7 @@ use borrow.Author.Tests.{lt-ltb, le-ltb}
 use Rattle.sectors.specs.NumberLaws.{be-byte}
 use Rattle.text.specs.String.{stringAt}
 use Rattle.text.specs.StringLaws.{string-end}
+use Rattle.area.specs.TestLaws.{cond-same}
 use Rattle.area.specs.Items.{Item, itemAt, nonzeroAt, nextItem, itemsFrom}
 use Rattle.area.specs.ItemLaws.{nonzero-more, nonzero-found, nonzero-end, items-none, items-short, items-first}
 use Rattle.area.specs.TrackText.{noPlaces, noItems, keep, keepAll, itemsKept}
@@ -23,10 +24,6 @@ use Rattle.area.proofs.track_text.items_kept.Tie as tie
 -- the items that are left while the next one is searched for from a place on
 unfoldable searched : List ℕ → ℕ → ℕ → List Item
 searched table at left = cond (ltb (nonzeroAt table at) (length table)) (itemsFrom table (nonzeroAt table at) left) []
-
-cond-same : {A : Type 0} {x : A} (t : Bool) → cond t x x ≡ x
-cond-same true = refl
-cond-same false = refl
 
 module _ (table : List ℕ) (at left : ℕ) where
   search-more : at < length table → getD table at 0 ≡ 0 → searched table at left ≡ searched table (at + 1) left
@@ -43,7 +40,7 @@ module _ (table : List ℕ) (at left : ℕ) where
 
   search-none : left ≡ 0 → searched table at left ≡ []
   unfolding searched
-  search-none e = ap (λ (n : ℕ). cond (ltb (nonzeroAt table at) (length table)) (itemsFrom table (nonzeroAt table at) n) []) e ∙ rw (items-none table (nonzeroAt table at)) (cond-same (ltb (nonzeroAt table at) (length table)))
+  search-none e = ap (λ (n : ℕ). cond (ltb (nonzeroAt table at) (length table)) (itemsFrom table (nonzeroAt table at) n) []) e ∙ rw (items-none table (nonzeroAt table at)) (cond-same (ltb (nonzeroAt table at) (length table)) [])
 
   none-left : left ≡ 0 → itemsFrom table at left ≡ []
   none-left e = ap (itemsFrom table at) e ∙ items-none table at
