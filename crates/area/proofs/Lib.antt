@@ -1,5 +1,4 @@
 pub mod Again
 pub mod Elem
 pub mod Filling
-pub mod Pushes
 pub mod Walking

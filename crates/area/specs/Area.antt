@@ -56,20 +56,16 @@ areaTexts = 4
 abbrev pub areaTextsOffset : ℕ
 areaTextsOffset = 144
 
--- the offset that stands for an item's text
-unfoldable pub areaTextOffset : List ℕ → ℕ → ℕ
-areaTextOffset table item = beAt table (areaTextsOffset + 2 * item) 2
-
 -- whether a text stands at an offset: 0 is none
 unfoldable pub isAbsent : List ℕ → ℕ → Bool
 isAbsent table offset = eqb offset 0 || not (present (stringAt table offset))
 
--- the place of a text that is there; 0 for an absent one
-unfoldable pub areaTextAt : List ℕ → ℕ → TextPlace
-areaTextAt table item = record { place = cond (isAbsent table (areaTextOffset table item)) 0 (areaTextOffset table item) }
+-- the place of the text whose offset stands in two bytes from a place on; 0 for an absent one
+unfoldable pub textPlaceAt : List ℕ → ℕ → TextPlace
+textPlaceAt table at = record { place = cond (isAbsent table (beAt table at 2)) 0 (beAt table at 2) }
 
 unfoldable pub areaTextsAt : List ℕ → List TextPlace
-areaTextsAt table = tabulate areaTexts (areaTextAt table)
+areaTextsAt table = tabulate areaTexts (λ item. textPlaceAt table (areaTextsOffset + 2 * item))
 
 -- the record of a table's area, without its address
 unfoldable pub recordOf : List ℕ → ℕ → ℕ → Area

@@ -1,6 +1,6 @@
 -- Laws of what is written into lent memory: runs of stores one after another, and their count. Assumes nothing.
 use mathlib.Core.Path.{_≡_, refl, sym, ap, _∙_}
-use mathlib.Core.Bool.{Bool, true, false}
+use mathlib.Core.Bool.{Bool, true, false, cond}
 use mathlib.Core.List.{List, [], _∷_, _++_, map, map-append}
 use Prim.Native.Nat.{ℕ, suc, _+_, _≤_}
 use native.Mathlib.Nat.{add-zero, add-suc, suc-add}
@@ -9,9 +9,19 @@ use lib.Dec.{ltb}
 use lib.ListN.{length, set, length-append, length-map}
 use lib.Seq.{sets, set-out, length-sets}
 use borrow.Author.Tests.{ltb-true, ltb-false}
-use Rattle.area.specs.Lent.{counted}
+use Rattle.area.specs.Lent.{whenTrue, counted}
 
 module _ {A : Type 0} where
+  -- a test gives one element or none
+  pub when-length : (t : Bool) (x : A) → length (whenTrue t x) ≡ cond t 1 0
+  unfolding whenTrue
+  when-length true x = refl
+  when-length false x = refl
+
+  pub when-given : (x : A) → whenTrue true x ≡ x ∷ []
+  unfolding whenTrue
+  when-given x = refl
+
   -- two runs, the second where the first ends, are one
   pub sets-then : (xs ys old : List A) (at : ℕ) → sets (sets old at xs) (at + length xs) ys ≡ sets old at (xs ++ ys)
   sets-then [] ys old at = ap (λ (n : ℕ). sets old n ys) (add-zero at)
@@ -81,3 +91,15 @@ module _ {A B : Type 0} where
           let long = ltb-true (length old) (at + length xs) q in let n = length-sets old at (map f xs) in
           sets-past (map f ys) (sets old at (map f xs)) _ (counted-past old at xs (sets old at (map f xs)) n (omega arith))
           ∙ sym (sets-past (map f ys) (sets old at (map f xs)) there (past there refl n (omega arith))) ∙ joined
+
+-- what lent elements are and their count, after new ones are written from a count on
+abbrev Pushed : {A B : Type 0} → (B → A) → List A → ℕ → List B → List A → ℕ → Type 0
+Pushed f old count new after n = (after ≡ sets old count (map f new)) × (n ≡ counted old count new)
+
+-- two runs, the second where the first is counted to, are one
+pub pushed-then : {A B : Type 0} (f : B → A) (old middle after : List A) (count n m : ℕ) (xs ys : List B) → Pushed f old count xs middle n
+    → Pushed f middle n ys after m → Pushed f old count (xs ++ ys) after m
+pushed-then f old middle after count n m xs ys p q = (
+  q .0 ∙ (λ i. sets (p .0 i) (p .1 i) (map f ys)) ∙ sets-counted f old count xs ys,
+  q .1 ∙ ap (λ (k : ℕ). counted middle k ys) (p .1) ∙ counted-then old middle count xs ys (ap length (p .0) ∙ length-sets old count (map f xs)),
+)

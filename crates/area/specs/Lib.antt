@@ -7,6 +7,7 @@ pub mod Limits
 pub mod LimitLaws
 pub mod Refusal
 pub mod Units
+pub mod UnitLaws
 pub mod Warning
 pub mod Timecode
 pub mod Cap
@@ -15,6 +16,7 @@ pub mod Chain
 pub mod Locale
 pub mod Area
 pub mod Skip
+pub mod SkipLaws
 pub mod Items
 pub mod ItemLaws
 pub mod TrackText

@@ -23,3 +23,8 @@ pub table-bytes-front : (sectors : ℕ) (table behind : List ℕ) → sectors �
 unfolding tableBytes tableSize
 table-bytes-front sectors table behind small e =
     part-front table behind 0 (tableSize sectors) (omega arith) ∙ table-bytes-all sectors table small e
+
+-- how long a table of at most 128 sectors is
+pub table-size : (sectors : ℕ) → sectors ≤ maxAreaTocSectors → tableSize sectors ≡ sectors * sectorSize
+unfolding tableSize
+table-size sectors small = omega arith

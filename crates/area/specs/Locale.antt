@@ -29,13 +29,13 @@ localeAt table at = record { language = languageOf (codeAt table at); «language
 unfoldable pub noLocale : Locale
 noLocale = record { language = record { bytes = 0 ∷ 0 ∷ []; len = 0 }; «language_code» = 0 ∷ 0 ∷ []; charset = 0 }
 
--- locale k of so many
-unfoldable pub localeOr : List ℕ → ℕ → ℕ → Locale
-localeOr table count k = cond (ltb k count) (localeAt table (localesOffset + 4 * k)) noLocale
+-- locale k of so many that stand from a place on
+unfoldable pub localeOr : List ℕ → ℕ → ℕ → ℕ → Locale
+localeOr table at count k = cond (ltb k count) (localeAt table (at + 4 * k)) noLocale
 
 -- as many as there are text channels
 unfoldable pub localesAt : List ℕ → ℕ → List Locale
-localesAt table count = tabulate maxLocales (localeOr table count)
+localesAt table count = tabulate maxLocales (localeOr table localesOffset count)
 
 -- how many of them are locales
 unfoldable pub localeCount : ℕ → ℕ

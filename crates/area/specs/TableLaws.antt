@@ -2,6 +2,7 @@
 -- Assumes nothing.
 use mathlib.Core.Path.{_≡_, refl, sym, ap, _∙_, subst}
 use mathlib.Core.Bool.{Bool, true, false, cond, not}
+use mathlib.Core.Logic.{_⊎_, inl, inr}
 use mathlib.Core.List.{List, [], _∷_, _++_, map, flatMap}
 use Prim.Native.Nat.{ℕ, _+_, _*_, _≤_, _<_, min}
 use native.Mathlib.Omega.{arith}
@@ -16,13 +17,13 @@ use Rattle.area.specs.TabulateLaws.{length-tabulate, tabulate-ext, tabul
 use Rattle.area.specs.Lent.{whenTrue}
 use Rattle.area.specs.Limits.{maxTracks, maxHeadWarnings, maxTrackWarnings, tableBytes}
 use Rattle.area.specs.Chain.{chainOf}
-use Rattle.area.specs.Area.{recordOf, addressed, noArea}
+use Rattle.area.specs.Area.{trackCountOffset, recordOf, addressed, noArea}
 use Rattle.area.specs.Skip.{skipOf}
 use Rattle.area.specs.Timecode.{frameNumber}
 use Rattle.area.specs.Track.{trackOf, noTrack}
-use Rattle.area.specs.TrackLaws.{track-within}
+use Rattle.area.specs.TrackLaws.{track-within, track-number}
 use Rattle.area.specs.Warning.{trackPastPlaytime, trackLsnOutsideArea, sampleFrequencyUnknown}
-use Rattle.area.specs.Table.{Table, skips, yields, ofSlot, dsd64, ofTrack, frequencyWarnings, trackWarnings, readsOf, tracksOf, tracksWarnings, yieldOf, tableOf, withAddress, areaOf, areaGiven, tracksGiven, warningsOf, headOf, headWarnings, trackCount, readIn, readsIn, tracksIn, warningsIn}
+use Rattle.area.specs.Table.{Table, skips, yields, ofSlot, dsd64, ofTrack, frequencyWarnings, trackWarnings, readsOf, tracksOf, tracksWarnings, yieldOf, tableOf, withAddress, areaOf, areaGiven, tracksGiven, warningsOf, headOf, noHead, headWarnings, trackCount, readIn, readsIn, tracksIn, warningsIn}
 use Rattle.area.specs.declared.area.Area.{Area}
 use Rattle.area.specs.declared.chain.Chain.{Chain}
 use Rattle.area.specs.declared.table.TableHead.{TableHead}
@@ -140,6 +141,49 @@ module _ (lent : List ℕ) (head : TableHead) (none : head .area ≡ noArea) whe
   unfolding warningsIn tracksWarnings flatMap
   warnings-none = ap (tracksWarnings (head .area .origin .slot)) reads-none
 
+-- ---- what a table gives is what its head leads to
+module _ (lent table : List ℕ) (slot lsn sectors : ℕ) (whole : tableBytes sectors lent ≡ table) where
+  given-by-head : (skipOf table ≡ 0 → ⊥) ⊎ (skipOf table ≡ 0) → (areaGiven (areaOf table slot lsn sectors) ≡ headOf table slot lsn sectors .area)
+      × ((tracksGiven (areaOf table slot lsn sectors) ≡ tracksIn lent (headOf table slot lsn sectors))
+      × (warningsOf (areaOf table slot lsn sectors) ≡ headWarnings slot (headOf table slot lsn sectors) ++ warningsIn lent (headOf table slot lsn sectors)))
+  unfolding areaGiven tracksGiven warningsOf
+  given-by-head (inr kept) =
+      let e = head-yields lent table slot lsn sectors whole kept in (ap areaGiven e, (ap tracksGiven e, ap warningsOf e))
+  given-by-head (inl skipped) =
+      let e = head-skips table slot lsn sectors skipped in let none = head-skip-area table slot lsn sectors skipped in
+      let head = headOf table slot lsn sectors in (
+        ap areaGiven e ∙ sym none,
+        (
+          ap tracksGiven e ∙ sym (tracks-none lent head none),
+          ap warningsOf e ∙ sym (λ i. head-skip-warned table slot lsn sectors skipped i ++ warnings-none lent head none i),
+        ),
+      )
+
+  skipped-or-kept : (skipOf table ≡ 0 → ⊥) ⊎ (skipOf table ≡ 0)
+  skipped-or-kept = go (eqb (skipOf table) 0) refl
+    where
+      go : (t : Bool) → eqb (skipOf table) 0 ≡ t → (skipOf table ≡ 0 → ⊥) ⊎ (skipOf table ≡ 0)
+      go true e = inr (eqb-true (skipOf table) 0 e)
+      go false e = inl (eqb-false (skipOf table) 0 e)
+
+  pub head-gives-area : areaGiven (areaOf table slot lsn sectors) ≡ headOf table slot lsn sectors .area
+  head-gives-area = given-by-head skipped-or-kept .0
+
+  pub head-gives-tracks : tracksGiven (areaOf table slot lsn sectors) ≡ tracksIn lent (headOf table slot lsn sectors)
+  head-gives-tracks = given-by-head skipped-or-kept .1 .0
+
+  pub head-gives-warnings : warningsOf (areaOf table slot lsn sectors)
+      ≡ headWarnings slot (headOf table slot lsn sectors) ++ warningsIn lent (headOf table slot lsn sectors)
+  head-gives-warnings = given-by-head skipped-or-kept .1 .1
+
+  pub head-present : skipOf table ≡ 0 → headOf table slot lsn sectors .area .present ≡ 1
+  unfolding addressed recordOf
+  head-present kept = ap (λ (a : Area). a .present) (head-area lent table slot lsn sectors whole kept)
+
+pub no-head-area : noHead .area ≡ noArea
+unfolding noHead
+no-head-area = refl
+
 -- ---- how many there are
 pub track-count-few : (head : TableHead) → trackCount head ≤ maxTracks
 unfolding trackCount
@@ -194,6 +238,13 @@ module _ (table : List ℕ) (slot sectors : ℕ) where
       by-skip (λ t. areaGiven t .«track_count» ≡ length (tracksGiven t)) (λ skipped. refl)
       (λ kept. let n = reads-length in let m = length-map (readsOf table (recordOf table slot sectors) (chainOf table)) (λ (read : TrackRead). read .track) in omega arith)
 
+  -- .. in any table, if a count above 255 counts as 255
+  pub tracks-count : length (tracksGiven (tableOf table slot sectors)) ≡ min (areaGiven (tableOf table slot sectors) .«track_count») maxTracks
+  unfolding areaGiven tracksGiven yieldOf tracksOf noArea recordOf
+  tracks-count =
+      by-skip (λ t. length (tracksGiven t) ≡ min (areaGiven t .«track_count») maxTracks) (λ skipped. refl)
+      (λ kept. let n = reads-length in let m = length-map (readsOf table (recordOf table slot sectors) (chainOf table)) (λ (read : TrackRead). read .track) in omega arith)
+
   pub tracks-most : length (tracksGiven (tableOf table slot sectors)) ≤ maxTracks
   unfolding tracksGiven yieldOf tracksOf
   tracks-most =
@@ -225,6 +276,24 @@ module _ (table : List ℕ) (slot sectors : ℕ) where
       subst (λ (t : Track). EndsWithin t (frameNumber (area .playtime) .0)) (sym (ap (λ (l : List Track). getD l i noTrack) all ∙ tabulate-at n (λ k. f k .track) i noTrack (omega arith)))
       (track-within table area (chainOf table) i))
 
+  -- tracks are numbered from 1
+  pub tracks-numbered : (i : ℕ) → i < length (tracksGiven (tableOf table slot sectors)) → getD (tracksGiven (tableOf table slot sectors)) i noTrack .number ≡ i + 1
+  unfolding tracksGiven yieldOf tracksOf readsOf
+  tracks-numbered i =
+      by-skip (λ t. i < length (tracksGiven t) → getD (tracksGiven t) i noTrack .number ≡ i + 1) (λ skipped below. absurd (omega arith))
+      (λ kept below.
+      let area = recordOf table slot sectors in let n = min (area .«track_count») maxTracks in let f = trackOf table area (chainOf table) in
+      let all = map-tabulate (λ (read : TrackRead). read .track) n f in
+      let few = ap length all ∙ length-tabulate n (λ k. f k .track) in
+      ap (λ (l : List Track). getD l i noTrack .number) all
+      ∙ ap (λ (t : Track). t .number) (tabulate-at n (λ k. f k .track) i noTrack (omega arith))
+      ∙ track-number table area (chainOf table) i)
+
+  -- the track count is byte 69
+  pub count-given : skipOf table ≡ 0 → areaGiven (tableOf table slot sectors) .«track_count» ≡ beAt table trackCountOffset 1
+  unfolding areaGiven yieldOf recordOf tableOf
+  count-given kept = simp (eq-eqb (skipOf table) 0 kept)
+
   -- the sector count and the slot are those given
   pub sectors-given : skipOf table ≡ 0 → areaGiven (tableOf table slot sectors) .origin .«toc_sectors» ≡ sectors
   unfolding areaGiven yieldOf recordOf tableOf
@@ -233,6 +302,29 @@ module _ (table : List ℕ) (slot sectors : ℕ) where
   pub slot-given : skipOf table ≡ 0 → areaGiven (tableOf table slot sectors) .origin .slot ≡ slot
   unfolding areaGiven yieldOf recordOf tableOf
   slot-given kept = simp (eq-eqb (skipOf table) 0 kept)
+
+  pub present-given : skipOf table ≡ 0 → areaGiven (tableOf table slot sectors) .present ≡ 1
+  unfolding areaGiven yieldOf recordOf tableOf
+  present-given kept = simp (eq-eqb (skipOf table) 0 kept)
+
+  -- a table is skipped exactly when a warning skips it
+  pub table-skips : (skipOf table ≡ 0 → ⊥) → tableOf table slot sectors ≡ skips (ofSlot (skipOf table) slot)
+  unfolding tableOf
+  table-skips skipped = simp (ne-eqb (skipOf table) 0 skipped)
+
+  pub table-yields : skipOf table ≡ 0
+      → tableOf table slot sectors ≡ yields (areaGiven (tableOf table slot sectors)) (tracksGiven (tableOf table slot sectors)) (warningsOf (tableOf table slot sectors))
+  unfolding areaGiven tracksGiven warningsOf yieldOf tableOf
+  table-yields kept = simp (eq-eqb (skipOf table) 0 kept)
+
+-- the record of no area
+pub no-area-absent : noArea .present ≡ 0
+unfolding noArea
+no-area-absent = refl
+
+pub no-area-no-tracks : noArea .«track_count» ≡ 0
+unfolding noArea
+no-area-no-tracks = refl
 
 -- the address stands in the record alone
 module _ (lsn : ℕ) where
@@ -253,3 +345,42 @@ module _ (lsn : ℕ) where
   pub addressed-again : (other : ℕ) (a : Area) → addressed lsn (addressed other a) ≡ addressed lsn a
   unfolding addressed
   addressed-again other a = refl
+
+  -- an address given again takes the place of the one before
+  pub address-again : (other : ℕ) (t : Table) → withAddress lsn (withAddress other t) ≡ withAddress lsn t
+  unfolding withAddress
+  address-again other (skips warning) = refl
+  address-again other (yields area tracks warnings) = ap (λ (a : Area). yields a tracks warnings) (addressed-again other area)
+
+  pub addressed-present : (a : Area) → addressed lsn a .present ≡ a .present
+  unfolding addressed
+  addressed-present a = refl
+
+  pub addressed-track-count : (a : Area) → addressed lsn a .«track_count» ≡ a .«track_count»
+  unfolding addressed
+  addressed-track-count a = refl
+
+  pub addressed-sectors : (a : Area) → addressed lsn a .origin .«toc_sectors» ≡ a .origin .«toc_sectors»
+  unfolding addressed
+  addressed-sectors a = refl
+
+-- what a table gives at an address, by what it gives without one
+module _ (table : List ℕ) (slot lsn sectors : ℕ) where
+  pub area-of : areaOf table slot lsn sectors ≡ withAddress lsn (tableOf table slot sectors)
+  unfolding areaOf
+  area-of = refl
+
+  pub address-area : skipOf table ≡ 0 → areaGiven (withAddress lsn (tableOf table slot sectors)) ≡ addressed lsn (areaGiven (tableOf table slot sectors))
+  unfolding withAddress areaGiven
+  address-area kept =
+      subst (λ (t : Table). areaGiven (withAddress lsn t) ≡ addressed lsn (areaGiven t)) (sym (table-yields table slot sectors kept)) refl
+
+  pub address-no-area : (skipOf table ≡ 0 → ⊥) → areaGiven (withAddress lsn (tableOf table slot sectors)) ≡ noArea
+  unfolding withAddress areaGiven
+  address-no-area skipped = ap (λ (t : Table). areaGiven (withAddress lsn t)) (table-skips table slot sectors skipped)
+
+  pub area-yields : skipOf table ≡ 0
+      → areaOf table slot lsn sectors
+      ≡ yields (addressed lsn (areaGiven (tableOf table slot sectors))) (tracksGiven (tableOf table slot sectors)) (warningsOf (tableOf table slot sectors))
+  unfolding areaOf withAddress
+  area-yields kept = ap (withAddress lsn) (table-yields table slot sectors kept)

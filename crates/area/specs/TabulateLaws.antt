@@ -11,6 +11,10 @@ module _ {A : Type 0} where
   unfolding tabulate
   tabulate-none f = refl
 
+  pub tabulate-next : (n : ℕ) (f : ℕ → A) → tabulate (suc n) f ≡ f 0 ∷ tabulate n (λ k. f (suc k))
+  unfolding tabulate
+  tabulate-next n f = refl
+
   pub length-tabulate : (n : ℕ) (f : ℕ → A) → length (tabulate n f) ≡ n
   unfolding tabulate
   length-tabulate zero f = refl

@@ -1,5 +1,6 @@
 -- Laws of one track: its times, its warning of them, its number. Assumes nothing.
 use mathlib.Core.Path.{_≡_, refl}
+use mathlib.Core.Logic.{_⊎_, inl, inr}
 use mathlib.Core.Bool.{Bool, true, false, cond}
 use mathlib.Core.List.{List}
 use Prim.Native.Nat.{ℕ, _+_, _≤_}
@@ -12,23 +13,32 @@ use Rattle.area.specs.TrackText.{itemsKept, noText, textOf, textOffset, 
 use Rattle.area.specs.Timecode.{frameNumber}
 use Rattle.area.specs.Cap.{exceeds}
 use Rattle.area.specs.CapLaws.{cap-within, cap-warned}
-use Rattle.area.specs.Track.{storedTimes, cappedTimes, timesOf, trackOf}
+use Rattle.area.specs.Track.{storedTimes, cappedTimes, timesOf, trackOf, noTrack}
 use Rattle.area.specs.declared.area.Area.{Area}
 use Rattle.area.specs.declared.chain.Chain.{Chain}
 use Rattle.area.specs.declared.track_text.ItemsKept.{ItemsKept}
 
--- no code of a text is that of the times
-unknown-not-past : (unknown : Bool) → cond unknown trackTextTypeUnknown 0 ≡ trackPastPlaytime → ⊥
-unknown-not-past true e = omega (arith, e)
-unknown-not-past false e = omega (arith, e)
+-- the codes of what a track is warned of its text: none, 12 or 13
+abbrev pub TextCode : ℕ → Type 0
+TextCode n = (n ≡ 0) ⊎ ((n ≡ trackTextOffsetInvalid) ⊎ (n ≡ trackTextTypeUnknown))
 
-code-not-past : (none silent cut : Bool) (kept : ItemsKept)
-    → cond none (noText 0) (cond silent (noText 0) (cond cut (noText trackTextOffsetInvalid) (textOf kept))) .warning ≡ trackPastPlaytime → ⊥
+unknown-code : (unknown : Bool) → TextCode (cond unknown trackTextTypeUnknown 0)
+unknown-code true = inr (inr refl)
+unknown-code false = inl refl
+
+code-of : (none silent cut : Bool) (kept : ItemsKept)
+    → TextCode (cond none (noText 0) (cond silent (noText 0) (cond cut (noText trackTextOffsetInvalid) (textOf kept))) .warning)
 unfolding noText textOf
-code-not-past true silent cut kept e = omega (arith, e)
-code-not-past false true cut kept e = omega (arith, e)
-code-not-past false false true kept e = omega (arith, e)
-code-not-past false false false kept e = unknown-not-past (kept .unknown) e
+code-of true silent cut kept = inl refl
+code-of false true cut kept = inl refl
+code-of false false true kept = inr (inl refl)
+code-of false false false kept = unknown-code (kept .unknown)
+
+-- none of them is that of the times
+code-not-past : (n : ℕ) → TextCode n → n ≡ trackPastPlaytime → ⊥
+code-not-past n (inl q) e = omega (arith, q, e)
+code-not-past n (inr (inl q)) e = omega (arith, q, e)
+code-not-past n (inr (inr q)) e = omega (arith, q, e)
 
 module _ (table : List ℕ) (area : Area) (chain : Chain) (i : ℕ) where
   -- start plus duration is at most the play time
@@ -47,8 +57,16 @@ module _ (table : List ℕ) (area : Area) (chain : Chain) (i : ℕ) where
   unfolding trackOf
   track-number = refl
 
-  pub text-not-past : trackOf table area chain i .«text_warning» ≡ trackPastPlaytime → ⊥
+  pub text-code : TextCode (trackOf table area chain i .«text_warning»)
   unfolding trackOf trackTextOf textBehind textAt
-  text-not-past e =
+  text-code =
       let block = chain .ttxt in let offset = textOffset table block i in
-      code-not-past (eqb block 0) (eqb offset 0) (ltb (length table) (block + offset + 4)) (itemsKept table (block + offset + 4) (beAt table (block + offset) 1)) e
+      code-of (eqb block 0) (eqb offset 0) (ltb (length table) (block + offset + 4)) (itemsKept table (block + offset + 4) (beAt table (block + offset) 1))
+
+  pub text-not-past : trackOf table area chain i .«text_warning» ≡ trackPastPlaytime → ⊥
+  text-not-past e = code-not-past (trackOf table area chain i .«text_warning») text-code e
+
+-- what stands past the end of a list has no number
+pub no-track-number : noTrack .number ≡ 0
+unfolding noTrack
+no-track-number = refl

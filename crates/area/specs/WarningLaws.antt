@@ -1,21 +1,27 @@
--- Laws of warnings: their words, and whose they are. Assumes nothing.
+-- Laws of warnings: their words, whose they are, and which codes they have. Assumes nothing.
 use mathlib.Core.Path.{_≡_, refl, sym, ap, _∙_, subst}
 use mathlib.Core.Bool.{Bool, true, false, cond, not}
 use mathlib.Core.List.{List, [], _∷_, _++_, flatMap, List·Memᴰ, List·Memᴰ·head, List·Memᴰ·tail, List·Memᴰ·not-nil, List·Memᴰ·cases-cons, List·Memᴰ·append-cases}
 use mathlib.Core.Logic.{_⊎_, inl, inr, ⊎-elim}
-use Prim.Native.Nat.{ℕ, zero, suc, _+_, _*_, _≤_, _<_}
+use Prim.Native.Nat.{ℕ, zero, suc, _+_, _*_, _≤_, _<_, min}
+use native.Mathlib.Decide.{ℕ-discrete}
 use native.Mathlib.Omega.{arith}
 use lib.Dec.{eqb}
-use borrow.Author.Tests.{lt-ltb}
+use borrow.Author.Tests.{lt-ltb, eq-eqb, ne-eqb, eqb-false, not-true}
 use Rattle.area.specs.Tabulate.{tabulate}
 use Rattle.area.specs.Lent.{whenTrue}
-use Rattle.area.specs.Warning.{wordOf, trackPastPlaytime, trackLsnOutsideArea, sampleFrequencyUnknown}
-use Rattle.area.specs.Table.{ofSlot, dsd64, frequencyWarnings, headWarnings, ofTrack, trackWarnings, trackCount, readIn, warningsIn}
+use Rattle.area.specs.Limits.{maxTracks}
+use Rattle.area.specs.Area.{recordOf}
+use Rattle.area.specs.Chain.{chainOf}
+use Rattle.area.specs.Skip.{skipOf}
+use Rattle.area.specs.SkipLaws.{SkipCode, skip-code}
+use Rattle.area.specs.Warning.{wordOf, areaSignatureInvalid, trackPastPlaytime, trackLsnOutsideArea, sampleFrequencyUnknown}
+use Rattle.area.specs.Table.{ofSlot, dsd64, frequencyWarnings, headWarnings, ofTrack, trackWarnings, readsOf, tracksWarnings, yieldOf, tableOf, warningsOf, trackCount, readIn, warningsIn}
 use Rattle.area.specs.TableLaws.{warnings-in}
 use Rattle.area.specs.Timecode.{frameNumber}
 use Rattle.area.specs.Cap.{exceeds}
 use Rattle.area.specs.Track.{storedTimes, trackOf}
-use Rattle.area.specs.TrackLaws.{track-warned, text-not-past}
+use Rattle.area.specs.TrackLaws.{TextCode, track-warned, text-code, text-not-past}
 use Rattle.area.specs.declared.area.Area.{Area}
 use Rattle.area.specs.declared.chain.Chain.{Chain}
 use Rattle.area.specs.declared.table.TableHead.{TableHead}
@@ -26,15 +32,21 @@ pub word-value : (w : Warning) → wordOf w ≡ w .code * 65536 + w .slot * 256 
 unfolding wordOf
 word-value w = refl
 
+-- a warning of a slot is of no track
+pub of-slot : (code slot : ℕ) → ofSlot code slot ≡ record { code = code; slot = slot; track = 0 }
+unfolding ofSlot
+of-slot code slot = refl
+
+-- an entry of a list of at most one
 module _ {A : Type 0} (w : A) where
-  in-one : (x : A) → List·Memᴰ w (x ∷ []) → w ≡ x
+  pub in-one : (x : A) → List·Memᴰ w (x ∷ []) → w ≡ x
   in-one x m = only (List·Memᴰ·cases-cons m)
     where
       only : (w ≡ x) ⊎ List·Memᴰ w [] → w ≡ x
       only (inl e) = e
       only (inr h) = absurd (List·Memᴰ·not-nil h)
 
-  in-when : (t : Bool) (x : A) → List·Memᴰ w (whenTrue t x) → w ≡ x
+  pub in-when : (t : Bool) (x : A) → List·Memᴰ w (whenTrue t x) → w ≡ x
   unfolding whenTrue
   in-when true x m = in-one x m
   in-when false x m = absurd (List·Memᴰ·not-nil m)
@@ -148,3 +160,79 @@ module _ (table : List ℕ) (area : Area) (chain : Chain) (i slot : ℕ) where
   pub fourteen-only : (w : Warning) → List·Memᴰ w (trackWarnings slot (trackOf table area chain i)) → w .code ≡ trackPastPlaytime
       → exceeds (frameNumber (storedTimes table (chain .trl2) i .start)) (frameNumber (storedTimes table (chain .trl2) i .duration)) (frameNumber (area .playtime)) ≡ true
   fourteen-only w m is = sym (track-warned table area chain i) ∙ warned-past slot (trackOf table area chain i) w (text-not-past table area chain i) m is
+
+-- ---- which codes the warnings of a table have: 8 to 15, and 18
+abbrev pub TableCode : ℕ → Type 0
+TableCode n = ((areaSignatureInvalid ≤ n) × (n ≤ trackLsnOutsideArea)) ⊎ (n ≡ sampleFrequencyUnknown)
+
+text-coded : (n : ℕ) → TextCode n → (n ≡ 0 → ⊥) → TableCode n
+text-coded n (inl e) some = absurd (some e)
+text-coded n (inr (inl e)) some = inl (omega (arith, e), omega (arith, e))
+text-coded n (inr (inr e)) some = inl (omega (arith, e), omega (arith, e))
+
+skip-coded : (n : ℕ) → SkipCode n → (n ≡ 0 → ⊥) → TableCode n
+skip-coded n (inl e) some = absurd (some e)
+skip-coded n (inr (inl e)) some = inl (omega (arith, e), omega (arith, e))
+skip-coded n (inr (inr (inl e))) some = inl (omega (arith, e), omega (arith, e))
+skip-coded n (inr (inr (inr (inl e)))) some = inl (omega (arith, e), omega (arith, e))
+skip-coded n (inr (inr (inr (inr e)))) some = inl (omega (arith, e), omega (arith, e))
+
+track-coded : (slot : ℕ) (read : TrackRead) (w : Warning) → TextCode (read .«text_warning») → List·Memᴰ w (trackWarnings slot read) → TableCode (w .code)
+unfolding trackWarnings ofTrack
+track-coded slot read w text m = three (List·Memᴰ·append-cases (past ++ outside) m)
+  where
+    past : List Warning
+    past = whenTrue (read .«past_playtime») (ofTrack trackPastPlaytime slot read)
+
+    outside : List Warning
+    outside = whenTrue (read .«outside_area») (ofTrack trackLsnOutsideArea slot read)
+
+    two : List·Memᴰ w past ⊎ List·Memᴰ w outside → TableCode (w .code)
+    two (inl h) =
+        let e = ap (λ (x : Warning). x .code) (in-when w (read .«past_playtime») (ofTrack trackPastPlaytime slot read) h) in
+        inl (omega (arith, e), omega (arith, e))
+    two (inr h) =
+        let e = ap (λ (x : Warning). x .code) (in-when w (read .«outside_area») (ofTrack trackLsnOutsideArea slot read) h) in
+        inl (omega (arith, e), omega (arith, e))
+
+    three : List·Memᴰ w (past ++ outside) ⊎ List·Memᴰ w (whenTrue (not (eqb (read .«text_warning») 0)) (ofTrack (read .«text_warning») slot read))
+        → TableCode (w .code)
+    three (inl h) = two (List·Memᴰ·append-cases past h)
+    three (inr h) =
+        let warned = in-when-passed w (not (eqb (read .«text_warning») 0)) (ofTrack (read .«text_warning») slot read) h in
+        let is = in-when w (not (eqb (read .«text_warning») 0)) (ofTrack (read .«text_warning») slot read) h in
+        subst TableCode (sym (ap (λ (x : Warning). x .code) is))
+        (text-coded (read .«text_warning») text (eqb-false (read .«text_warning») 0 (not-true (eqb (read .«text_warning») 0) warned)))
+
+module _ (table : List ℕ) (slot sectors : ℕ) (w : Warning) where
+  reads-coded : List·Memᴰ w (tracksWarnings slot (readsOf table (recordOf table slot sectors) (chainOf table))) → TableCode (w .code)
+  unfolding tracksWarnings readsOf
+  reads-coded m =
+      let area = recordOf table slot sectors in let read = trackOf table area (chainOf table) in let n = min (area .«track_count») maxTracks in
+      let found = flat-member (trackWarnings slot) (tabulate n read) m in
+      let entry = tabulate-member n read (found .1 .0) in
+      track-coded slot (found .0) w
+      (subst (λ (r : TrackRead). TextCode (r .«text_warning»)) (sym (entry .1 .1)) (text-code table area (chainOf table) (entry .0)))
+      (found .1 .1)
+
+  kept-coded : List·Memᴰ w (frequencyWarnings slot (recordOf table slot sectors) ++ tracksWarnings slot (readsOf table (recordOf table slot sectors) (chainOf table)))
+      → TableCode (w .code)
+  unfolding frequencyWarnings ofSlot
+  kept-coded m = go (List·Memᴰ·append-cases (frequencyWarnings slot (recordOf table slot sectors)) m)
+    where
+      go : List·Memᴰ w (frequencyWarnings slot (recordOf table slot sectors)) ⊎ List·Memᴰ w (tracksWarnings slot (readsOf table (recordOf table slot sectors) (chainOf table)))
+          → TableCode (w .code)
+      go (inl h) =
+          inr (ap (λ (x : Warning). x .code)
+          (in-when w (not (eqb (recordOf table slot sectors .«sample_frequency_code») dsd64)) (ofSlot sampleFrequencyUnknown slot) h))
+      go (inr h) = reads-coded h
+
+  pub table-codes : List·Memᴰ w (warningsOf (tableOf table slot sectors)) → TableCode (w .code)
+  unfolding tableOf yieldOf warningsOf ofSlot
+  table-codes m = go (ℕ-discrete (skipOf table) 0)
+    where
+      go : Dec (skipOf table ≡ 0) → TableCode (w .code)
+      go (yes e) = kept-coded (rw (eq-eqb (skipOf table) 0 e) at m)
+      go (no some) =
+          let is = in-one w (ofSlot (skipOf table) slot) (rw (ne-eqb (skipOf table) 0 some) at m) in
+          subst TableCode (sym (ap (λ (x : Warning). x .code) is)) (skip-coded (skipOf table) (skip-code table) some)

@@ -1,6 +1,6 @@
 // The record of an area.
 ghost use mathlib.Core.Path.{_≡_};
-ghost use Rattle.area.specs.Area.{kindOf, lowFour, areaTextAt, areaTextsAt, recordOf, addressed, noArea};
+ghost use Rattle.area.specs.Area.{kindOf, lowFour, areaTextsAt, recordOf, addressed, noArea};
 ghost use Rattle.area.specs.Locale.{localeCount};
 use crate::locale::Locale;
 use crate::locale::MAX_LOCALES;
@@ -8,14 +8,13 @@ use crate::locale::locales_at;
 use crate::locale::no_locale;
 use crate::text_places::AREA_TEXTS;
 use crate::text_places::TextPlace;
+use crate::text_places::text_place_at;
 use crate::timecode::Timecode;
 use crate::timecode::timecode_at;
-use sectors::number::be16_at;
 use sectors::number::be32_at;
 use sectors::number::byte_at;
 use sectors::sector::Lsn;
 use sectors::signature::has_signature;
-use text::string::string_bytes;
 
 // The signatures that an area's table begins with, by number.
 pub const TWO_CHANNEL: u8 = 1;
@@ -105,29 +104,15 @@ fn locale_count(channels: u8) -> u8
     }
 }
 
-// The place of an area's text, by its item index; 0 if it is absent.
-fn area_text_at(table: &[u8], item: u8) -> TextPlace
-    ensures { λ r. ⌜ r ≡ areaTextAt (now (table .entry)) item ⌝ }
-{
-    let offset = be16_at(table, AREA_TEXTS_OFFSET + 2 * item as usize);
-    let len = string_bytes(table, offset as usize).len();
-    if (offset == 0) | !(0 < len) {
-        return TextPlace { place: 0 };
-    }
-    TextPlace {
-        place: offset as u32,
-    }
-}
-
 // The places of an area's texts.
 fn area_texts_at(table: &[u8]) -> [TextPlace; AREA_TEXTS]
     ensures { λ r. ⌜ r ≡ areaTextsAt (now (table .entry)) ⌝ }
 {
     [
-        area_text_at(table, 0),
-        area_text_at(table, 1),
-        area_text_at(table, 2),
-        area_text_at(table, 3),
+        text_place_at(table, AREA_TEXTS_OFFSET),
+        text_place_at(table, AREA_TEXTS_OFFSET + 2),
+        text_place_at(table, AREA_TEXTS_OFFSET + 4),
+        text_place_at(table, AREA_TEXTS_OFFSET + 6),
     ]
 }
 
@@ -170,7 +155,7 @@ pub(crate) fn record_of(table: &[u8], slot: u8, lsn: Lsn, sectors: u16) -> Area
 }
 
 // The record of no area.
-pub(crate) fn no_area() -> Area
+pub fn no_area() -> Area
     ensures { λ r. ⌜ r ≡ noArea ⌝ }
 {
     Area {

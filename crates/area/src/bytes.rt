@@ -24,7 +24,7 @@ pub(crate) fn byte_from(table: &[u8], at: usize, k: u8) -> u8
 }
 
 // At most so many bytes from a place on, as a part of the table.
-pub(crate) fn part_of<'a>(table: &'a [u8], at: usize, n: usize) -> &'a [u8]
+pub fn part_of<'a>(table: &'a [u8], at: usize, n: usize) -> &'a [u8]
     ensures bytes { λ r. ⌜ now r ≡ part at n (now (table .entry)) ⌝ }
     ensures placed { λ r. ⌜ ptr r ≡ startAt (ptr (table .entry)) (min at (length (now (table .entry)))) ⌝ }
 {

@@ -85,7 +85,7 @@ fn no_such_track(area: Area, number: u32) -> bool
 }
 
 // Decodes a text of a track that stands in a list of so many.
-pub(crate) fn decode_of_track(
+pub fn decode_of_track(
     table: &[u8],
     area: Area,
     room: usize,
@@ -94,7 +94,8 @@ pub(crate) fn decode_of_track(
     item: u32,
     page: &mut [u8],
 ) -> DecodeAnswer
-    ensures { λ r. ⌜ (r ≡ textAnswer (trackTextIn (now (table .entry)) area room track number item) (length (now (page .entry)))) × (now (page .exit) ≡ textPage (trackTextIn (now (table .entry)) area room track number item) (now (page .entry))) ⌝ }
+    ensures answer { λ r. ⌜ r ≡ textAnswer (trackTextIn (now (table .entry)) area room track number item) (length (now (page .entry))) ⌝ }
+    ensures filled { λ r. ⌜ now (page .exit) ≡ textPage (trackTextIn (now (table .entry)) area room track number item) (now (page .entry)) ⌝ }
 {
     if table_short(table.len(), area) | (room < MAX_TRACKS) {
         return DecodeAnswer {

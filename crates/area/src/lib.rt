@@ -1,6 +1,6 @@
 // The area tables of an SACD: the walk of their sub-structures, the area record, tracks, warnings and texts.
 pub mod area;
-mod bytes;
+pub mod bytes;
 pub mod cap;
 pub mod chain;
 pub mod cursor;

@@ -10,7 +10,7 @@ use text::language::language;
 pub const MAX_LOCALES: usize = 10;
 
 // Where a table's locales stand.
-const LOCALES_OFFSET: usize = 88;
+const LOCALES_OFFSET: u8 = 88;
 
 // A locale: its language, the two bytes of the language as stored, and the code of its character set.
 #[repr(C)]
@@ -33,7 +33,7 @@ fn locale_at(table: &[u8], at: usize) -> Locale
 }
 
 // The zero record.
-pub(crate) fn no_locale() -> Locale
+pub fn no_locale() -> Locale
     ensures { λ r. ⌜ r ≡ noLocale ⌝ }
 {
     Locale {
@@ -46,12 +46,12 @@ pub(crate) fn no_locale() -> Locale
     }
 }
 
-// The locale of an index below a count, or the zero record.
-fn locale_or(table: &[u8], k: u8, count: u8) -> Locale
-    ensures { λ r. ⌜ r ≡ localeOr (now (table .entry)) count k ⌝ }
+// The locale of an index below a count, of those that stand from a place on, or the zero record.
+pub fn locale_or(table: &[u8], at: u8, k: u8, count: u8) -> Locale
+    ensures { λ r. ⌜ r ≡ localeOr (now (table .entry)) at count k ⌝ }
 {
     if k < count {
-        return locale_at(table, LOCALES_OFFSET + 4 * k as usize);
+        return locale_at(table, at as usize + 4 * k as usize);
     }
     no_locale()
 }
@@ -61,15 +61,15 @@ pub(crate) fn locales_at(table: &[u8], count: u8) -> [Locale; MAX_LOCALES]
     ensures { λ r. ⌜ r ≡ localesAt (now (table .entry)) count ⌝ }
 {
     [
-        locale_or(table, 0, count),
-        locale_or(table, 1, count),
-        locale_or(table, 2, count),
-        locale_or(table, 3, count),
-        locale_or(table, 4, count),
-        locale_or(table, 5, count),
-        locale_or(table, 6, count),
-        locale_or(table, 7, count),
-        locale_or(table, 8, count),
-        locale_or(table, 9, count),
+        locale_or(table, LOCALES_OFFSET, 0, count),
+        locale_or(table, LOCALES_OFFSET, 1, count),
+        locale_or(table, LOCALES_OFFSET, 2, count),
+        locale_or(table, LOCALES_OFFSET, 3, count),
+        locale_or(table, LOCALES_OFFSET, 4, count),
+        locale_or(table, LOCALES_OFFSET, 5, count),
+        locale_or(table, LOCALES_OFFSET, 6, count),
+        locale_or(table, LOCALES_OFFSET, 7, count),
+        locale_or(table, LOCALES_OFFSET, 8, count),
+        locale_or(table, LOCALES_OFFSET, 9, count),
     ]
 }

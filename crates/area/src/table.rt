@@ -142,7 +142,7 @@ fn push_track(words: &mut [u32], count: usize, slot: u8, read: TrackRead) -> usi
 }
 
 // The head of no table.
-pub(crate) fn no_head() -> TableHead
+pub fn no_head() -> TableHead
     ensures { λ r. ⌜ r ≡ noHead ⌝ }
 {
     TableHead {

@@ -133,7 +133,7 @@ pub(crate) struct IsrcGenre {
 }
 
 // The genre in four bytes from a place on.
-fn genre_at(table: &[u8], at: usize) -> Genre
+pub fn genre_at(table: &[u8], at: usize) -> Genre
     ensures { λ r. ⌜ r ≡ genreAt (now (table .entry)) at ⌝ }
 {
     Genre {

@@ -5,8 +5,8 @@ use native.Mathlib.Omega.{arith}
 use mathlib.Core.Path.{_≡_, refl, sym, _∙_, ap}
 use mathlib.Core.Bool.{Bool, true, false}
 use mathlib.Core.List.{List, [], _++_, append-nil, append-assoc}
-use lib.ListN.{length, getD, length-append, List·getD-eq-default}
-use lib.Seq.{ext-getD, take-at, drop-at}
+use lib.ListN.{length, getD, drop, length-append, List·getD-eq-default}
+use lib.Seq.{ext-getD, take-at, take-add, drop-at, drop-drop}
 use borrow.Author.Tests.{leb-true, leb-false, le-leb, lt-leb}
 use Rattle.sectors.specs.Fill.{part}
 use Rattle.sectors.specs.FillLaws.{part-length, part-at}
@@ -193,3 +193,20 @@ data-starts format bytes lsn there = simp there
 pub data-missing : (format bytes lsn : ℕ) → readable format bytes lsn 1 ≡ false → dataStart format bytes lsn ≡ 0
 unfolding dataStart
 data-missing format bytes lsn missing = simp missing
+
+-- ---- format 0, which stores a sector's data and nothing else
+pub plain-count : (n rest : ℕ) → rest < sectorSize → sectorCount 0 (n * sectorSize + rest) ≡ n
+unfolding sectorCount storedSize layoutOf
+plain-count n rest h = omega arith
+
+-- a run of its sectors is a part of the image
+pub plain-run : (image : List ℕ) (lsn n : ℕ) → readable 0 (length image) lsn n ≡ true
+    → runData 0 image lsn n ≡ part (lsn * sectorSize) (n * sectorSize) image
+unfolding runData part storedSize dataOffset layoutOf
+plain-run image lsn zero h = refl
+plain-run image lsn (suc n) h =
+    let front = plain-run image lsn n (run-shorter 0 image lsn (suc n) n h (omega arith)) in
+    let last = sector-is 0 image (lsn + n) (sector-of-run 0 image lsn (suc n) n h (omega arith)) in
+    let place : (lsn + n) * sectorSize + 0 ≡ lsn * sectorSize + n * sectorSize = omega arith in
+    let size : suc n * sectorSize ≡ n * sectorSize + sectorSize = omega arith in
+    rw (front, last, place, size, take-add (n * sectorSize) sectorSize (drop (lsn * sectorSize) image), drop-drop (n * sectorSize) (lsn * sectorSize) image)

@@ -170,8 +170,11 @@ module _ {M : Type 1} (𝓤 : URA M) (H : Heap 𝓤) (A : Atoms 𝓤) (W : Given
   asks-of-track : (t : Track) (v : Val) → ent 𝓤 (onEntry 𝓤 H A of-track.signature (κ₀, (κ₂, tt)) (q₀, (q₂, tt)) (of-track-args t) (to-of-track t v .0 .4)) (OfTrack 𝓤 H A mem run .pre (to-of-track t v))
   asks-of-track t v = qed W (raw (onEntry 𝓤 H A of-track.signature (κ₀, (κ₂, tt)) (q₀, (q₂, tt)) (of-track-args t) (to-of-track t v .0 .4)) ∷ []) ∵ frame ! $ done !
 
-  abbrev Decoded : Track → DecodeAnswer → List ℕ → Type 0
-  Decoded t d zp = (d ≡ textAnswer (trackTextIn (s .now) area m t number item) (length (pg .now))) × (zp ≡ textPage (trackTextIn (s .now) area m t number item) (pg .now))
+  abbrev Answered : Track → DecodeAnswer → Type 0
+  Answered t d = d ≡ textAnswer (trackTextIn (s .now) area m t number item) (length (pg .now))
+
+  abbrev Filled : Track → List ℕ → Type 0
+  Filled t zp = zp ≡ textPage (trackTextIn (s .now) area m t number item) (pg .now)
 
   -- the MIR
   walk : (𝓣 : Tables 𝓤 H) → Triple 𝓤 (𝓣 .C #area·track-index) (Index 𝓤 H A mem run) → Triple 𝓤 (𝓣 .C #area·track-at) (TrackAt 𝓤 H A mem run) → Triple 𝓤 (𝓣 .C #area·decode-of-track) (OfTrack 𝓤 H A mem run)
@@ -212,8 +215,8 @@ module _ {M : Type 1} (𝓤 : URA M) (H : Heap 𝓤) (A : Atoms 𝓤) (W : Given
       calls-at ! fm (OfTrack 𝓤 H A mem run) known-of-track (to-of-track t v) (and-then ! (load ! (from ! (stop !)) (look ! 22 refl)) (and-then ! (load ! (from ! (stop !)) (look ! 20 refl)) (and-then ! (load ! (from ! (stop !)) (look ! 8 refl)) (and-then ! (load ! (from ! (stop !)) (look ! 10 refl))
       (and-then ! (load ! (from ! (stop !)) (look ! 16 refl)) (and-then ! (load ! (from ! (stop !)) (look ! 14 refl)) (and-then ! (load ! (from ! (stop !)) (look ! 4 refl)) (no-more !)))))))) (λ w.
       use1 W (later (some (λ (d : DecodeAnswer). ((‵ (flft κ₀ q₀) ⊛ ‵ (flft κ₂ q₂) ⊛ ‵ ftrue) ⊛ ‵ (D.the-row .own d (w ∷ []))) ⊛ raw (ensured 𝓤 H A of-track.ended (of-track.clauses 𝓤 H A mem run) (κ₀, (κ₂, tt)) (of-track-args t) tt d)))) (id⊢ 𝓤 _) $ await ! tt $ pick ! (λ d.
-      split ! $ move ! (1 ∷ []) $ use1 W (some (λ (ws : Unit {0} × (Unit {0} × (Unit {0} × (Unit {0} × (Unit {0} × (Unit {0} × (List ℕ × Unit {0}))))))). ‵ (lasts of-track.ended (κ₀, (κ₂, tt)) (of-track-args t) ws) ⊛ raw (fact 𝓤 (Decoded t d (ws .1 .1 .1 .1 .1 .1 .0))))) (id⊢ 𝓤 _) $ pick ! (λ ws.
-      split ! $ move ! (1 ∷ []) $ heard ! (Decoded t d (ws .1 .1 .1 .1 .1 .1 .0)) (λ g.
+      split ! $ move ! (1 ∷ []) $ use1 W (some (λ (ws : Unit {0} × (Unit {0} × (Unit {0} × (Unit {0} × (Unit {0} × (Unit {0} × (List ℕ × Unit {0}))))))). ‵ (lasts of-track.ended (κ₀, (κ₂, tt)) (of-track-args t) ws) ⊛ (raw (fact 𝓤 (Answered t d)) ⊛ raw (fact 𝓤 (Filled t (ws .1 .1 .1 .1 .1 .1 .0)))))) (id⊢ 𝓤 _) $ pick ! (λ ws.
+      split ! $ move ! (1 ∷ []) $ split ! $ heard ! (Answered t d) (λ g. heard ! (Filled t (ws .1 .1 .1 .1 .1 .1 .0)) (λ h.
       -- the last list of page, under its own name
       fsplit ! $ move ! (1 ∷ []) $ fsplit ! $ move ! (1 ∷ []) $ fsplit ! $ move ! (1 ∷ []) $ fsplit ! $ move ! (1 ∷ []) $ fsplit ! $ move ! (1 ∷ []) $ fsplit ! $ move ! (1 ∷ []) $ fsplit ! $ fsplit ! $ move ! (1 ∷ []) $ feqL ! (λ l.
       move ! (8 ∷ []) $ split ! $ move ! (1 ∷ []) $ peeks ! D.the-row (Is D.the-row) (shows 𝓤 H A D.the-row) d (w ∷ []) (λ d-is. land ! (from ! (stop !)) (init ! 33 refl (LL.lawful D.the-type D′.the-laws 𝓤 H A W .typed d (w ∷ []) d-is .0)) $
@@ -222,7 +225,7 @@ module _ {M : Type 1} (𝓤 : URA M) (H : Heap 𝓤) (A : Atoms 𝓤) (W : Given
       -- [the three tokens; what table and tracks own; page's last list; what the answer owns; _10; …; _0; …]
       returns ! (look ! 27 refl) $ forget ! 7 refl $ forget ! 9 refl $ forget ! 11 refl $ forget ! 13 refl $ forget ! 15 refl $ forget ! 17 refl $ forget ! 19 refl $ forget ! 21 refl $ forget ! 23 refl $ forget ! 25 refl $ forget ! 27 refl $
       move ! (27 ∷ 28 ∷ []) $ free1 ! $ move ! (25 ∷ 26 ∷ []) $ free1 ! $ move ! (23 ∷ 24 ∷ []) $ free1 ! $ move ! (21 ∷ 22 ∷ []) $ free1 ! $ move ! (19 ∷ 20 ∷ []) $ free1 ! $ move ! (17 ∷ 18 ∷ []) $ free1 ! $ move ! (15 ∷ 16 ∷ []) $ free1 ! $ move ! (13 ∷ 14 ∷ []) $ free1 ! $ move ! (11 ∷ 12 ∷ []) $ free1 ! $ move ! (9 ∷ 10 ∷ []) $ free1 ! $ move ! (7 ∷ 8 ∷ []) $ free1 ! $ free0 ! $
-      by ! (exits d w (ws .1 .1 .1 .1 .1 .1 .0) (g .0 ∙ ap (λ (x : Text). textAnswer x (length (pg .now))) (same j t e f), g .1 ∙ ap (λ (x : Text). textPage x (pg .now)) (same j t e f)) l))))))))))))))))))))))))))
+      by ! (exits d w (ws .1 .1 .1 .1 .1 .1 .0) (g ∙ ap (λ (x : Text). textAnswer x (length (pg .now))) (same j t e f), h ∙ ap (λ (x : Text). textPage x (pg .now)) (same j t e f)) l)))))))))))))))))))))))))))
     where
       fm : FmC 𝓤 H (W .laws) (𝓣 .C)
       fm = fmOf 𝓤 H (W .laws) 𝓣

@@ -1,15 +1,17 @@
 -- `area::table::push_head` meets its contract: the skip's word or that of the frequency. Assumes nothing.
 use mathlib.Core.Path.{_≡_, refl, subst}
 use mathlib.Core.Bool.{Bool, true, false, cond, not, _&&_}
-use mathlib.Core.List.{List, [], _∷_, _++_}
+use mathlib.Core.List.{List, [], _∷_, _++_, map}
 use Prim.Native.Nat.{ℕ}
 use denote.Ref.{now}
 use lib.Dec.{eqb}
-use Rattle.area.specs.Lent.{whenTrue}
+use lib.Seq.{sets}
+use Rattle.area.specs.Lent.{whenTrue, counted}
+use Rattle.area.specs.LentLaws.{pushed-then}
 use Rattle.area.specs.Table.{ofSlot, frequencyWarnings, headWarnings}
+use Rattle.area.specs.Warning.{wordOf}
 use Rattle.area.specs.declared.table.TableHead.{TableHead}
 use Rattle.area.specs.declared.warning.Warning.{Warning}
-use Rattle.area.proofs.Pushes.{Pushed, pushed-then}
 use borrow.Author.Needs.{needs}
 use Rattle.area.proofs.table.push_head.Statement.{statement}
 use Rattle.area.proofs.table.push_head.Tie as tie
@@ -40,8 +42,8 @@ same-length c = search needs
 
 returns : tie.Need-returns
 returns c = let p = c .before .before in let q = p .before .before .before .before .before in let a = q .before .before .before .before .before .args in let words = now (a .words) in
-    subst (λ (w : List Warning). Pushed words (a .count) w (p .push2 .last .0) (p .push2 .result)) (one-of-both (a .slot) (a .head))
-    (pushed-then words _ _ _ _ _ _ _ (q .push .ensures) (p .push2 .ensures))
+    subst (λ (w : List Warning). (p .push2 .last .0 ≡ sets words (a .count) (map wordOf w)) × (p .push2 .result ≡ counted words (a .count) w)) (one-of-both (a .slot) (a .head))
+    (pushed-then wordOf words _ _ _ _ _ _ _ (q .push .ensures) (p .push2 .ensures))
 
 pub push-head-spec : {M : Type 1} → statement M
 push-head-spec = tie.close (tie.spec push-requires push-requires-2 same-length returns)
