@@ -1,0 +1,5 @@
+pub mod Slot
+pub mod Master
+pub mod Warning
+pub mod Refusal
+pub mod Copies
