@@ -3,3 +3,5 @@ pub mod Master
 pub mod Warning
 pub mod Refusal
 pub mod Copies
+pub mod Outcome
+pub mod Disc

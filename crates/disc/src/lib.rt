@@ -1,4 +1,5 @@
 // The tables of an SACD image: the master record, and the copies of the slots.
+pub mod answer;
 mod copies;
 pub mod master;
 pub mod regions;
