@@ -5,3 +5,14 @@ pub mod Refusal
 pub mod Copies
 pub mod Outcome
 pub mod Disc
+pub mod CopyLaws
+pub mod RegionLaws
+pub mod Demand3
+pub mod ChosenLaws
+pub mod DiscLaws
+pub mod SourceCut
+pub mod Demand3Proof
+pub mod Demand3Calls
+pub mod Sample
+pub mod Controls
+pub mod WarningLaws
