@@ -16,3 +16,5 @@ pub mod Demand3Calls
 pub mod Sample
 pub mod Controls
 pub mod WarningLaws
+pub mod TextDecode
+pub mod TextDecodeLaws
