@@ -1,6 +1,6 @@
 // Appended by oracle/copy, not the customer's: this module's private items, for the comparison.
 pub mod private {
-    use super::{Area, AreaPointer, Error, Image, Read, Seek, Slot, Warning, Warnings};
+    use super::{Area, AreaPointer, Error, Image, MasterToc, Read, Seek, Slot, Warning, Warnings};
 
     pub fn byte(b: &[u8], at: usize) -> u8 {
         super::byte(b, at)
@@ -23,5 +23,20 @@ pub mod private {
         let mut warnings = Warnings { list: Vec::new(), log: img.log().clone() };
         let read = super::read_area(img, slot, ptr, &mut warnings)?;
         Ok((read.map(|(area, _, _)| area), warnings.list))
+    }
+
+    /// The master record and the warnings of a disc, whether a slot yields an area or not.
+    pub fn read_master_and_warnings<R: Read + Seek>(
+        img: &mut Image<R>,
+    ) -> Result<(MasterToc, Vec<Warning>), Error> {
+        let mut warnings = Warnings { list: Vec::new(), log: img.log().clone() };
+        let (master, _) = super::read_master(img, &mut warnings)?;
+        for slot in [Slot::TwoChannel, Slot::Multichannel] {
+            let pointer = master.pointer(slot);
+            if pointer.is_used() {
+                super::read_area(img, slot, pointer, &mut warnings)?;
+            }
+        }
+        Ok((master, warnings.list))
     }
 }

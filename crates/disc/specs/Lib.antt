@@ -5,8 +5,16 @@ pub mod Refusal
 pub mod Copies
 pub mod Outcome
 pub mod Disc
+pub mod Steps
 pub mod CopyLaws
 pub mod RegionLaws
+pub mod FetchLaws
+pub mod FetchFillLaws
+pub mod StepLaws
+pub mod TextDecode
+pub mod TextDecodeLaws
+pub mod WarningBounds
+pub mod SlotLaws
 pub mod Demand3
 pub mod ChosenLaws
 pub mod DiscLaws
@@ -16,5 +24,3 @@ pub mod Demand3Calls
 pub mod Sample
 pub mod Controls
 pub mod WarningLaws
-pub mod TextDecode
-pub mod TextDecodeLaws

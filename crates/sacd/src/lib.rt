@@ -8,6 +8,8 @@ ghost use Rattle.area.specs.Items.{drawAt};
 ghost use Rattle.area.specs.Lone.{loneOf, loneAnswer, loneTracks, loneWords};
 ghost use Rattle.area.specs.TextDecode.{areaTextIn, trackTextBy, textAnswer, textPage};
 ghost use Rattle.area.specs.Timecode.{frameNumber};
+ghost use Rattle.disc.specs.Disc.{readDisc};
+ghost use Rattle.disc.specs.TextDecode.{discTextIn, areaTextOn, trackTextAt};
 ghost use Rattle.sectors.specs.Audit.{SoundIn, auditOf};
 ghost use Rattle.sectors.specs.Fnv.{digestOf, fingerprintOf};
 ghost use Rattle.sectors.specs.Number.{beAt};
@@ -26,6 +28,8 @@ use area::lone::TableAnswer;
 use area::timecode::Frame;
 use area::timecode::Timecode;
 use area::track::Track;
+use disc::answer::DiscAnswer;
+use disc::master::MasterToc;
 use sectors::fnv::FingerprintAnswer;
 use sectors::header::AuditAnswer;
 use sectors::run::Comparison;
@@ -274,6 +278,21 @@ pub extern "C" fn sacd_read_table(
     area::lone::read_table(table, tracks, words)
 }
 
+// Reads a disc from one lent image: its master record and the records of its areas, its tables into at least 544,768 work bytes, its
+// tracks into a list of at least 510, its warnings into at least 1,537 words. Refusals other than 6 change nothing.
+#[no_mangle]
+pub extern "C" fn sacd_read_disc(
+    format: u32,
+    image: &[u8],
+    work: &mut [u8],
+    tracks: &mut [Track],
+    words: &mut [u32],
+) -> DiscAnswer
+    ensures { λ r. ⌜ (r ≡ readDisc format (now (image .entry)) (record { work = now (work .entry); tracks = now (tracks .entry); words = now (words .entry) }) .answer) × ((now (work .exit) ≡ readDisc format (now (image .entry)) (record { work = now (work .entry); tracks = now (tracks .entry); words = now (words .entry) }) .memory .work) × ((now (tracks .exit) ≡ readDisc format (now (image .entry)) (record { work = now (work .entry); tracks = now (tracks .entry); words = now (words .entry) }) .memory .tracks) × (now (words .exit) ≡ readDisc format (now (image .entry)) (record { work = now (work .entry); tracks = now (tracks .entry); words = now (words .entry) }) .memory .words))) ⌝ }
+{
+    disc::disc::read_disc(format, image, work, tracks, words)
+}
+
 // Decodes a text of an area, by its item index, to the start of a page. A refusal changes nothing.
 #[no_mangle]
 pub extern "C" fn sacd_decode_area_text(
@@ -301,4 +320,47 @@ pub extern "C" fn sacd_decode_track_text(
     ensures { λ r. ⌜ (r ≡ textAnswer (trackTextBy (now (table .entry)) area (now (tracks .entry)) number item) (length (now (page .entry)))) × (now (page .exit) ≡ textPage (trackTextBy (now (table .entry)) area (now (tracks .entry)) number item) (now (page .entry))) ⌝ }
 {
     area::decode::decode_track_text(table, area, tracks, number, item, page)
+}
+
+// Decodes a text of the disc, by its item index, to the start of a page.
+#[no_mangle]
+pub extern "C" fn sacd_decode_disc_text(
+    work: &[u8],
+    master: MasterToc,
+    item: u32,
+    page: &mut [u8],
+) -> DecodeAnswer
+    ensures answer { λ r. ⌜ r ≡ textAnswer (discTextIn (now (work .entry)) master item) (length (now (page .entry))) ⌝ }
+    ensures filled { λ r. ⌜ now (page .exit) ≡ textPage (discTextIn (now (work .entry)) master item) (now (page .entry)) ⌝ }
+{
+    disc::decode::decode_disc_text(work, master, item, page)
+}
+
+// Decodes a text of an area after a disc reading.
+#[no_mangle]
+pub extern "C" fn sacd_decode_disc_area_text(
+    work: &[u8],
+    area: Area,
+    item: u32,
+    page: &mut [u8],
+) -> DecodeAnswer
+    ensures answer { λ r. ⌜ r ≡ textAnswer (areaTextOn (now (work .entry)) area item) (length (now (page .entry))) ⌝ }
+    ensures filled { λ r. ⌜ now (page .exit) ≡ textPage (areaTextOn (now (work .entry)) area item) (now (page .entry)) ⌝ }
+{
+    disc::decode::decode_disc_area_text(work, area, item, page)
+}
+
+// Decodes a text of a track after a disc reading.
+#[no_mangle]
+pub extern "C" fn sacd_decode_disc_track_text(
+    work: &[u8],
+    area: Area,
+    tracks: &[Track],
+    number: u32,
+    item: u32,
+    page: &mut [u8],
+) -> DecodeAnswer
+    ensures { λ r. ⌜ (r ≡ textAnswer (trackTextAt (now (work .entry)) area (now (tracks .entry)) number item) (length (now (page .entry)))) × (now (page .exit) ≡ textPage (trackTextAt (now (work .entry)) area (now (tracks .entry)) number item) (now (page .entry))) ⌝ }
+{
+    disc::decode::decode_disc_track_text(work, area, tracks, number, item, page)
 }

@@ -13,7 +13,7 @@ use sacd::area::{decode_area_text, decode_track_text, read_table};
 use std::hint::black_box;
 
 /// The bytes of a text: then the last track's begins within reach of its two-byte offset.
-const LETTERS: usize = 14;
+pub const LETTERS: usize = 14;
 /// Where the track texts' block begins: behind the track lists, ISRCs and genres.
 const BLOCK: usize = 5 * DATA;
 /// Where the first track's text begins, behind the block's offsets.
@@ -26,13 +26,13 @@ struct Lone {
     page: Vec<u8>,
 }
 
-/// Fills a table of zeros.
-fn fill(table: &mut [u8], letter: fn(&mut Rng) -> u8) {
+/// Fills a table of zeros with so many tracks, of as many texts each.
+pub fn fill(table: &mut [u8], tracks: usize, texts: usize, letter: fn(&mut Rng) -> u8) {
     let mut rng = Rng::new(1);
     put(table, 0, b"TWOCHTOC");
     put(table, 20, &[4]);
     put(table, 64, &[255, 59, 74]);
-    put(table, 69, &[255]);
+    put(table, 69, &[tracks as u8]);
     put32(table, 76, 1 << 20);
     let signatures = [b"SACDTRL1", b"SACDTRL2", b"SACD_IGL"];
     for (sector, signature) in signatures.into_iter().enumerate() {
@@ -40,23 +40,29 @@ fn fill(table: &mut [u8], letter: fn(&mut Rng) -> u8) {
     }
     put(table, BLOCK, b"SACDTTxt");
     let mut place = FIRST;
-    for track in 0..MAX_TRACKS {
+    for track in 0..tracks {
         put32(table, DATA + 8 + 4 * track, track as u32 * 1000);
         put(table, 2 * DATA + 8 + 4 * track, &[track as u8, 0, 0]);
         put(table, 3 * DATA + 8 + 12 * track, b"GBAAA2500001");
         put16(table, BLOCK + 8 + 2 * track, (place - BLOCK) as u16);
-        place = put_text(&mut rng, table, place, letter);
+        place = put_text(&mut rng, table, place, texts, letter);
     }
     for item in 0..AREA_TEXTS {
         put16(table, 144 + 2 * item, (FIRST + 6) as u16);
     }
 }
 
-/// Puts all texts of a track at a place; the place behind them.
-fn put_text(rng: &mut Rng, table: &mut [u8], place: usize, letter: fn(&mut Rng) -> u8) -> usize {
-    table[place] = TRACK_TEXTS as u8;
+/// Puts so many texts of a track at a place; the place behind them.
+fn put_text(
+    rng: &mut Rng,
+    table: &mut [u8],
+    place: usize,
+    texts: usize,
+    letter: fn(&mut Rng) -> u8,
+) -> usize {
+    table[place] = texts as u8;
     let mut place = place + 4;
-    for item in 0..TRACK_TEXTS as u8 {
+    for item in 0..texts as u8 {
         table[place] = if item < 7 { item + 1 } else { item + 122 };
         table[place + 2..][..LETTERS].fill_with(|| letter(rng));
         place += LETTERS + 3;
@@ -68,7 +74,7 @@ fn put_text(rng: &mut Rng, table: &mut [u8], place: usize, letter: fn(&mut Rng) 
 fn lones(letter: fn(&mut Rng) -> u8) -> Vec<Lone> {
     let lone = || {
         let table = room(MOST_SECTORS * DATA, 0);
-        fill(table, letter);
+        fill(table, MAX_TRACKS, TRACK_TEXTS, letter);
         let tracks = vec![Track::default(); MAX_TRACKS];
         Lone { table, tracks, words: vec![0; TABLE_WORDS], page: vec![0; 8192] }
     };

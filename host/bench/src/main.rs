@@ -1,9 +1,10 @@
 //! Times the static library beside memcpy, memcmp and the customer's `digest`, `decode_string`,
-//! `string_bytes` and `read_area`, in one process and over the same warm buffers. Each time is the best of
-//! many rounds, in which the two take turns. Build it for release.
+//! `string_bytes`, `read_area` and `read_toc`, in one process and over the same warm buffers. Each
+//! time is the best of many rounds, in which the two take turns. Build it for release.
 
 mod area;
 mod clock;
+mod disc;
 mod text;
 
 use clock::Row;
@@ -143,4 +144,5 @@ fn main() {
     text::decoding();
     text::strings();
     area::tables();
+    disc::discs();
 }

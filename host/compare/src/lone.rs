@@ -39,12 +39,12 @@ impl Lone {
     }
 }
 
-fn word(warning: &Warning) -> u32 {
+pub fn word(warning: &Warning) -> u32 {
     let [code, slot, track] = numbers(warning).map(u32::from);
     code * 65_536 + slot * 256 + track
 }
 
-fn area_record(table: &[u8], area: &toc::Area) -> Area {
+pub fn area_record(table: &[u8], area: &toc::Area) -> Area {
     let mut locales = [Locale::default(); sacd::area::MAX_LOCALES];
     for (record, locale) in locales.iter_mut().zip(&area.locales) {
         *record = locale_record(locale);
@@ -84,13 +84,13 @@ fn area_record(table: &[u8], area: &toc::Area) -> Area {
     }
 }
 
-fn locale_record(locale: &toc::Locale) -> Locale {
+pub fn locale_record(locale: &toc::Locale) -> Locale {
     let (bytes, len) = padded(&one_a_character(&locale.language));
     let language = LanguageCode { bytes, len };
     Locale { language, language_code: locale.language_code, charset: locale.charset }
 }
 
-fn track_records(table: &[u8], area: &toc::Area) -> Vec<Track> {
+pub fn track_records(table: &[u8], area: &toc::Area) -> Vec<Track> {
     let block = plain::first_of(&plain::met(table), Structure::TrackText);
     let records = area.tracks.iter().enumerate().map(|(i, track)| Track {
         text: plain::places(&plain::track_items(table, plain::text_at(table, block, i))),

@@ -1,8 +1,10 @@
 //! Compares the static library with the customer's Rust, in one process.
 //!
 //! Exit status: 0 all answers are equal; 1 some differ; 2 bad usage, or a class of cases is
-//! empty, so that the comparison would say nothing about it.
+//! empty or too small, so that the comparison would say nothing about it.
 
+mod cuts;
+mod disc;
 mod draws;
 mod extent;
 mod fields;
@@ -35,8 +37,9 @@ use tally::Kind;
 use texts::Texts;
 use times::Times;
 
-const USAGE: &str =
-    "usage: compare [--short] [--seed N] [--cases N] [--headers N] [--texts N] [--tables N]";
+const USAGE: &str = "usage: compare [--short] [--seed N] [--cases N] [--headers N] [--texts N] \
+    [--tables N] [--discs N]
+       compare cuts [--short] [--seed N] [--cuts N]";
 
 struct Options {
     seed: u64,
@@ -48,24 +51,52 @@ struct Options {
     texts: u64,
     /// Random lone tables, beside those at the edges.
     tables: u64,
+    /// Random discs.
+    discs: u64,
+    /// Whether images are cut, and nothing else is compared.
+    cutting: bool,
+    /// Cuts of each disc in each format.
+    cuts: usize,
 }
 
+const FULL: Options = Options {
+    seed: 1,
+    cases: 20_000,
+    headers: 1_000_000,
+    texts: 100_000,
+    tables: 60_000,
+    discs: 100_000,
+    cutting: false,
+    cuts: 1_100,
+};
+
+const SHORT: Options = Options {
+    cases: 2_000,
+    headers: 20_000,
+    texts: 5_000,
+    tables: 1_500,
+    discs: 2_000,
+    cuts: 60,
+    ..FULL
+};
+
 fn options() -> Option<Options> {
-    let mut options =
-        Options { seed: 1, cases: 20_000, headers: 1_000_000, texts: 100_000, tables: 60_000 };
+    let mut options = FULL;
     let mut words = std::env::args().skip(1);
     while let Some(word) = words.next() {
         match word.as_str() {
             "--short" => {
-                let Options { seed, .. } = options;
-                options =
-                    Options { seed, cases: 2_000, headers: 20_000, texts: 5_000, tables: 1_500 }
+                let Options { seed, cutting, .. } = options;
+                options = Options { seed, cutting, ..SHORT };
             }
             "--seed" => options.seed = words.next()?.parse().ok()?,
             "--cases" => options.cases = words.next()?.parse().ok()?,
             "--headers" => options.headers = words.next()?.parse().ok()?,
             "--texts" => options.texts = words.next()?.parse().ok()?,
             "--tables" => options.tables = words.next()?.parse().ok()?,
+            "--discs" => options.discs = words.next()?.parse().ok()?,
+            "--cuts" => options.cuts = words.next()?.parse().ok()?,
+            "cuts" => options.cutting = true,
             _ => return None,
         }
     }
@@ -96,7 +127,7 @@ fn run(options: &Options) -> Vec<Kind> {
     let texts = [string_bytes, charset, decode, fixed_bytes, fixed_text, language];
     let times = [times.frame_number, times.cap];
     let below = sectors.into_iter().chain(numbers).chain(texts).chain(times);
-    below.chain(areas(options)).collect()
+    below.chain(areas(options)).chain(disc::kinds(options.seed, options.discs)).collect()
 }
 
 fn texts(options: &Options) -> (Fields, Strings, Times) {
@@ -138,7 +169,8 @@ fn areas(options: &Options) -> Vec<Kind> {
     let Tables { read, shapes, values } = tables;
     let Shapes { walk, head, tracks, items, .. } = shapes;
     let Texts { area, track, lies } = texts;
-    vec![read, walk, head, tracks, items, values.kind(), area, track, lies, draws.text, draws.any]
+    let values = values.kind("values of fields");
+    vec![read, walk, head, tracks, items, values, area, track, lies, draws.text, draws.any]
 }
 
 fn print(kinds: &[Kind]) {
@@ -159,14 +191,19 @@ fn main() -> ExitCode {
         eprintln!("{USAGE}");
         return ExitCode::from(2);
     };
-    let Options { seed, cases, texts, tables, .. } = options;
-    println!("seed {seed}, {cases} images, {texts} texts, {tables} tables");
-    let kinds = run(&options);
+    let Options { seed, cases, texts, tables, discs, cuts, .. } = options;
+    let kinds = if options.cutting {
+        println!("seed {seed}, {cuts} cuts of each disc");
+        cuts::kinds(seed, cuts)
+    } else {
+        println!("seed {seed}, {cases} images, {texts} texts, {tables} tables, {discs} discs");
+        run(&options)
+    };
     print(&kinds);
     let mut status = 0;
     for kind in &kinds {
-        for class in kind.empty_classes() {
-            println!("{}: no case of the class '{class}'", kind.name);
+        for class in kind.scant_classes() {
+            println!("{}: fewer than {} cases of the class '{class}'", kind.name, kind.least);
             status = 2;
         }
     }

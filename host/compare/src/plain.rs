@@ -121,6 +121,13 @@ pub fn area_text(table: &[u8], item: usize) -> TextPlace {
     TextPlace { place: if empty { 0 } else { place as u32 } }
 }
 
+/// The place of a disc's text in the sector of texts: 0 if that is none, or the string is empty.
+pub fn disc_text(sector: &[u8], item: usize) -> TextPlace {
+    let place = number16(sector, 16 + 2 * item);
+    let none = !sector.starts_with(b"SACDText") || string_at(sector, place).is_empty();
+    TextPlace { place: if none { 0 } else { place as u32 } }
+}
+
 /// The frame number of the timecode at a place; each byte past the end reads as 0.
 pub fn frame_number(table: &[u8], at: usize) -> u32 {
     let byte = |k| table.get(at + k).map_or(0, |&byte| u32::from(byte));

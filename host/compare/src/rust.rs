@@ -13,7 +13,8 @@ pub type Lent<'a> = Image<Cursor<&'a [u8]>>;
 /// What no rule gives: the Rust failed in another way.
 pub const FAILED: u8 = 255;
 
-fn sector_format(format: u32) -> Option<SectorFormat> {
+/// The format of a number; nothing for a foreign one.
+pub fn sector_format(format: u32) -> Option<SectorFormat> {
     match format {
         0 => Some(SectorFormat::Plain),
         1 => Some(SectorFormat::Raw2054),

@@ -181,7 +181,7 @@ fn any_room(rng: &mut Rng, need: usize) -> usize {
     }
 }
 
-fn patterned_words(salt: usize, count: usize) -> Vec<u32> {
+pub fn patterned_words(salt: usize, count: usize) -> Vec<u32> {
     let mut bytes = vec![0; 4 * count];
     pattern(salt, &mut bytes);
     let (words, _) = bytes.as_chunks();
@@ -213,6 +213,9 @@ fn patterned_track(words: &[u32]) -> Track {
     }
 }
 
-fn first_difference<T: PartialEq>(ours: &[T], theirs: &[T]) -> Option<usize> {
+pub fn first_difference<T: PartialEq>(ours: &[T], theirs: &[T]) -> Option<usize> {
+    if ours == theirs {
+        return None;
+    }
     ours.iter().zip(theirs).position(|(ours, theirs)| ours != theirs)
 }

@@ -8,8 +8,10 @@ pub struct Kind {
     pub cases: u64,
     pub refused: u64,
     pub differences: u64,
-    /// The classes that must not be empty, so that no comparison is about nothing.
+    /// The classes that must have cases, so that no comparison is about nothing.
     pub classes: Vec<(&'static str, u64)>,
+    /// The cases that each class must have.
+    pub least: u64,
     /// The first case whose answers differ.
     pub first: Option<String>,
 }
@@ -17,7 +19,7 @@ pub struct Kind {
 impl Kind {
     pub fn new(name: &'static str, classes: &[&'static str]) -> Self {
         let classes = classes.iter().map(|&class| (class, 0)).collect();
-        Kind { name, cases: 0, refused: 0, differences: 0, classes, first: None }
+        Kind { name, cases: 0, refused: 0, differences: 0, classes, least: 1, first: None }
     }
 
     /// Counts a case whose expected answer has this refusal.
@@ -54,9 +56,9 @@ impl Kind {
         self.class(class, usize::from(belongs));
     }
 
-    /// The classes that no case was of.
-    pub fn empty_classes(&self) -> impl Iterator<Item = &'static str> {
-        self.classes.iter().filter(|(_, count)| *count == 0).map(|(name, _)| *name)
+    /// The classes that too few cases were of.
+    pub fn scant_classes(&self) -> impl Iterator<Item = &'static str> {
+        self.classes.iter().filter(|(_, count)| *count < self.least).map(|(name, _)| *name)
     }
 
     /// The name of the first class and its count, then the next, and so on.
@@ -71,6 +73,9 @@ fn refusal_class(refusal: u8) -> &'static str {
         0 => "accepted",
         1 => "refusal 1",
         2 => "refusal 2",
+        3 => "refusal 3",
+        4 => "refusal 4",
+        5 => "refusal 5",
         6 => "refusal 6",
         7 => "refusal 7",
         8 => "refusal 8",
@@ -82,15 +87,17 @@ fn refusal_class(refusal: u8) -> &'static str {
 }
 
 #[test]
-fn a_difference_and_an_empty_class_are_seen() {
+fn a_difference_and_a_scant_class_are_seen() {
     let mut kind = Kind::new("kind", &["refusal 1", "even"]);
     kind.case(&"a", 0, 5, 5);
     kind.class_if("even", true);
     assert_eq!((kind.differences, kind.first.as_deref()), (0, None));
-    assert_eq!(kind.empty_classes().collect::<Vec<_>>(), ["refusal 1"]);
+    assert_eq!(kind.scant_classes().collect::<Vec<_>>(), ["refusal 1"]);
     kind.case(&"b", 1, 5, 6);
     kind.case(&"c", 1, 5, 7);
     assert_eq!((kind.cases, kind.refused, kind.differences), (3, 2, 2));
     assert_eq!(kind.first.as_deref(), Some("\"b\"\n  library: 5\n  Rust:    6"));
-    assert_eq!(kind.empty_classes().count(), 0);
+    assert_eq!(kind.scant_classes().count(), 0);
+    kind.least = 2;
+    assert_eq!(kind.scant_classes().collect::<Vec<_>>(), ["even"]);
 }

@@ -1,8 +1,9 @@
-//! How many values each field of the records takes among the accepted tables.
+//! How many values each field of the records takes among the accepted tables and discs.
 
 use crate::lone::Lone;
 use crate::tally::Kind;
-use sacd::area::{Area, Track};
+use sacd::FixedText;
+use sacd::area::{Area, Locale, Track};
 use std::collections::BTreeSet;
 
 /// A field: its name, the values that it must take at least, and those that it took.
@@ -22,15 +23,25 @@ impl Values {
         Values::default()
     }
 
+    /// The records of a lone table, whose address never changes.
     pub fn note(&mut self, lone: &Lone) {
-        for (at, (name, least, value)) in area_values(&lone.area).into_iter().enumerate() {
-            self.add(at, name, least, value);
+        self.note_area(&lone.area, &lone.tracks, 1);
+    }
+
+    /// The records of an area whose address takes at least so many values.
+    pub fn note_area(&mut self, area: &Area, tracks: &[Track], addresses: usize) {
+        let fields = area_values(area, addresses);
+        let before = fields.len();
+        self.note_fields(0, fields);
+        for track in tracks {
+            self.note_fields(before, track_values(track));
         }
-        let before = area_values(&lone.area).len();
-        for track in &lone.tracks {
-            for (at, (name, least, value)) in track_values(track).into_iter().enumerate() {
-                self.add(before + at, name, least, value);
-            }
+    }
+
+    /// Fields that stand behind so many others.
+    pub fn note_fields(&mut self, before: usize, fields: Vec<(&'static str, usize, u64)>) {
+        for (at, (name, least, value)) in fields.into_iter().enumerate() {
+            self.add(before + at, name, least, value);
         }
     }
 
@@ -46,9 +57,9 @@ impl Values {
     }
 
     /// A kind with a class for each field, empty if it took too few values.
-    pub fn kind(&self) -> Kind {
+    pub fn kind(&self, name: &'static str) -> Kind {
         let names: Vec<_> = self.fields.iter().map(|field| field.0).collect();
-        let mut kind = Kind::new("values of fields", &names);
+        let mut kind = Kind::new(name, &names);
         kind.cases = self.noted;
         for (name, least, values) in &self.fields {
             kind.class(name, if values.len() < *least { 0 } else { values.len() });
@@ -57,13 +68,13 @@ impl Values {
     }
 }
 
-/// Each field's name, the values that it must take at least, and the one here. A lone table's flag,
-/// slot and address never change; a kind has two values.
-fn area_values(area: &Area) -> Vec<(&'static str, usize, u64)> {
+/// Each field's name, the values that it must take at least, and the one here. The flag and the slot
+/// never change; a kind has two values.
+fn area_values(area: &Area, addresses: usize) -> Vec<(&'static str, usize, u64)> {
     let mut values = vec![
         ("area.present", 1, area.present.into()),
         ("slot", 1, area.origin.slot.into()),
-        ("toc_lsn", 1, area.origin.toc_lsn.0.into()),
+        ("toc_lsn", addresses, area.origin.toc_lsn.0.into()),
         ("toc_sectors", 3, area.origin.toc_sectors.into()),
         ("kind", 2, area.kind.into()),
         ("version.major", 3, area.version.major.into()),
@@ -87,21 +98,34 @@ fn area_values(area: &Area) -> Vec<(&'static str, usize, u64)> {
         ("locale_count", 3, area.locale_count.into()),
         ("text_charset", 3, area.text_charset.into()),
     ];
-    for (names, locale) in LOCALES.iter().zip(&area.locales) {
-        let [first, second] = locale.language.bytes.map(u64::from);
-        values.push((names[0], 3, first << 8 | second));
-        values.push((names[1], 3, locale.language.len.into()));
-        values.push((names[2], 3, u16::from_be_bytes(locale.language_code).into()));
-        values.push((names[3], 3, locale.charset.into()));
-    }
+    values.extend(locale_values(&area.locales));
     for (name, text) in AREA_TEXTS.iter().zip(area.text) {
         values.push((name, 3, text.place.into()));
     }
     values
 }
 
+/// The fields of locales, at most 10.
+pub fn locale_values(locales: &[Locale]) -> Vec<(&'static str, usize, u64)> {
+    let named = LOCALES.iter().zip(locales);
+    let values = named.flat_map(|(names, locale)| {
+        let [first, second] = locale.language.bytes.map(u64::from);
+        [
+            (names[0], 3, first << 8 | second),
+            (names[1], 3, locale.language.len.into()),
+            (names[2], 3, u16::from_be_bytes(locale.language_code).into()),
+            (names[3], 3, locale.charset.into()),
+        ]
+    });
+    values.collect()
+}
+
+/// A number that tells texts apart.
+pub fn text_value(text: &FixedText) -> u64 {
+    text.text().iter().fold(0, |sum, &byte| sum << 5 ^ u64::from(byte))
+}
+
 fn track_values(track: &Track) -> Vec<(&'static str, usize, u64)> {
-    let isrc = track.isrc.text().iter().fold(0, |sum: u64, &byte| sum << 5 ^ u64::from(byte));
     let mut values = vec![
         ("track.number", 3, track.number.into()),
         ("start_lsn", 3, track.start_lsn.0.into()),
@@ -111,7 +135,7 @@ fn track_values(track: &Track) -> Vec<(&'static str, usize, u64)> {
         ("start_flags", 3, track.start_flags.into()),
         ("duration_flags", 3, track.duration_flags.into()),
         ("has_isrc", 2, track.has_isrc.into()),
-        ("isrc", 3, isrc),
+        ("isrc", 3, text_value(&track.isrc)),
         ("isrc.len", 3, track.isrc.len.into()),
         ("has_genre", 2, track.has_genre.into()),
         ("genre.category", 3, track.genre.category.into()),

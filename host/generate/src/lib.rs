@@ -1,6 +1,7 @@
-//! A deterministic generator of disc images, of area tables, of texts and of questions about
+//! A deterministic generator of images, of discs, of area tables, of texts and of questions about
 //! them: the same seed gives the same cases everywhere.
 
+pub mod disc;
 pub mod header;
 pub mod image;
 pub mod layout;

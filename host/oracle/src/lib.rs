@@ -2,6 +2,7 @@
 //! depends on this crate.
 
 mod control;
+pub mod disc;
 pub mod lone;
 mod read_at;
 

@@ -2,6 +2,7 @@
 //! A slice is a pointer and then a length.
 
 use crate::area::{Area, Capped, Drawn, Frame, TableAnswer, Timecode, Track};
+use crate::disc::{DiscAnswer, MasterToc};
 use crate::{AuditAnswer, Comparison, DecodeAnswer, Fingerprint, FixedText, LanguageCode};
 
 unsafe extern "C" {
@@ -80,4 +81,42 @@ unsafe extern "C" {
     pub fn sacd_draw_at(table: *const u8, table_len: usize, next: usize, left: usize) -> Drawn;
     pub safe fn sacd_frame_number(time: Timecode) -> Frame;
     pub safe fn sacd_cap(start: Frame, duration: Frame, playtime: Frame) -> Capped;
+    pub fn sacd_read_disc(
+        format: u32,
+        image: *const u8,
+        image_len: usize,
+        work: *mut u8,
+        work_len: usize,
+        tracks: *mut Track,
+        tracks_len: usize,
+        words: *mut u32,
+        words_len: usize,
+    ) -> DiscAnswer;
+    pub fn sacd_decode_disc_text(
+        work: *const u8,
+        work_len: usize,
+        master: MasterToc,
+        item: u32,
+        page: *mut u8,
+        page_len: usize,
+    ) -> DecodeAnswer;
+    pub fn sacd_decode_disc_area_text(
+        work: *const u8,
+        work_len: usize,
+        area: Area,
+        item: u32,
+        page: *mut u8,
+        page_len: usize,
+    ) -> DecodeAnswer;
+    pub fn sacd_decode_disc_track_text(
+        work: *const u8,
+        work_len: usize,
+        area: Area,
+        tracks: *const Track,
+        tracks_len: usize,
+        number: u32,
+        item: u32,
+        page: *mut u8,
+        page_len: usize,
+    ) -> DecodeAnswer;
 }

@@ -5,6 +5,7 @@
 //! or a [`Format`]. A refusal is a number ([`refusal`]), 0 when there is none.
 
 pub mod area;
+pub mod disc;
 mod ffi;
 mod text;
 
@@ -19,7 +20,13 @@ pub mod refusal {
     pub const FOREIGN_FORMAT: u8 = 1;
     /// A lent buffer is too short.
     pub const SHORT_BUFFER: u8 = 2;
-    /// The table yields no area.
+    /// The image has fewer than 520 whole sectors.
+    pub const CUT_MASTER: u8 = 3;
+    /// LSN 510 does not begin `SACDMTOC`.
+    pub const NOT_SCARLET_BOOK: u8 = 4;
+    /// The major version of the master table is above 1.
+    pub const NEWER_EDITION: u8 = 5;
+    /// The lone table, or neither slot of the disc, yields an area.
     pub const NO_AREA: u8 = 6;
     /// The table has 0 bytes, over 262,144 or no multiple of 2,048.
     pub const ODD_TABLE: u8 = 7;

@@ -66,7 +66,7 @@ fn any_addresses(rng: &mut Rng, reversed: bool) -> (u32, u32) {
 }
 
 /// Two characters, a character set and a last byte.
-fn any_locale(rng: &mut Rng) -> [u8; 4] {
+pub fn any_locale(rng: &mut Rng) -> [u8; 4] {
     let letters = [b'a' + rng.below(26) as u8, b'a' + rng.below(26) as u8];
     let [first, second] = match rng.below(4) {
         0 => [rng.pick(&[0, b' ', 0xe9, b'e']), rng.pick(&[0, b' ', 0xff, b'n'])],

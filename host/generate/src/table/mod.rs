@@ -5,7 +5,9 @@ mod lists;
 mod plan;
 mod texts;
 
+pub(crate) use head::any_locale;
 pub use plan::{MOST_SECTORS, Plan, Structure, any_plan, orders, plans};
+pub(crate) use texts::any_string;
 
 use crate::Rng;
 use crate::layout::DATA;

@@ -1,0 +1,91 @@
+-- The starred cards of 01 ("Bench cards") as one table: each has what is asked and the answer that it wants. Assumes nothing.
+use Prim.Native.Nat.{ℕ}
+use mathlib.Core.Bool.{Bool, true, false, cond, not, _&&_}
+use mathlib.Core.List.{List, [], _∷_}
+use lib.Dec.{eqb}
+use lib.ListN.{length, replicate}
+use Rattle.sectors.specs.Bytes.{same}
+use Rattle.sectors.specs.Header.{isSound}
+use Rattle.text.specs.Charset.{latin1, charsetOf}
+use Rattle.text.specs.Decode.{decodeOf, decodeInto}
+use Rattle.area.specs.Cap.{capOf}
+use Rattle.area.specs.Timecode.{frameNumber}
+use Rattle.area.specs.declared.cap.Capped.{Capped}
+use Rattle.area.specs.declared.timecode.Frame.{Frame}
+use Rattle.area.specs.declared.timecode.Timecode.{Timecode}
+
+pub data Card : Type 0 where
+  -- a timecode; its frame number
+  frameCard : Timecode → Frame → Card
+  -- start and duration, under the play time of the cards; what is kept of them
+  capCard : Frame → Frame → Capped → Card
+  -- a byte of Latin-1; its UTF-8
+  byteCard : ℕ → List ℕ → Card
+  -- the code of a set; the set
+  charsetCard : ℕ → ℕ → Card
+  -- a header's six bytes; whether it is sound
+  headerCard : List ℕ → Bool → Card
+
+abbrev timecode : ℕ → ℕ → ℕ → Timecode
+timecode minutes seconds frames = record { minutes = minutes; seconds = seconds; frames = frames }
+
+abbrev frame : ℕ → Frame
+frame n = record { 0 = n }
+
+abbrev kept : ℕ → ℕ → Capped
+kept start duration = record { «start_frame» = frame start; «duration_frames» = frame duration; «past_playtime» = false }
+
+abbrev warned : ℕ → ℕ → Capped
+warned start duration = record { «start_frame» = frame start; «duration_frames» = frame duration; «past_playtime» = true }
+
+-- "Play time 4500"
+abbrev pub cardPlaytime : Frame
+cardPlaytime = frame 4500
+
+unfoldable pub cards : List Card
+cards =
+    -- "Frames 0:0:0 = 0*, 1:0:0 = 4500*, 255:255:255 = 1166880*."
+    frameCard (timecode 0 0 0) (frame 0)
+    ∷ frameCard (timecode 1 0 0) (frame 4500)
+    ∷ frameCard (timecode 255 255 255) (frame 1166880)
+    -- "Play time 4500: 4400+100 kept*; 4400+101 gives 4400, 100, warned*; 4600+0 gives 4500, 0, warned*; 4500+0 kept*."
+    ∷ capCard (frame 4400) (frame 100) (kept 4400 100)
+    ∷ capCard (frame 4400) (frame 101) (warned 4400 100)
+    ∷ capCard (frame 4600) (frame 0) (warned 4500 0)
+    ∷ capCard (frame 4500) (frame 0) (kept 4500 0)
+    -- "Byte E9 gives C3 A9*."
+    ∷ byteCard 0xe9 (0xc3 ∷ 0xa9 ∷ [])
+    -- "Set code 8 is Latin-1*, 11 is set 3*."
+    ∷ charsetCard 8 latin1
+    ∷ charsetCard 11 3
+    -- "Header 00 00 00 01 03 02 sound*, 00 00 00 01 02 03 not*."
+    ∷ headerCard (0x00 ∷ 0x00 ∷ 0x00 ∷ 0x01 ∷ 0x03 ∷ 0x02 ∷ []) true
+    ∷ headerCard (0x00 ∷ 0x00 ∷ 0x00 ∷ 0x01 ∷ 0x02 ∷ 0x03 ∷ []) false
+    ∷ []
+
+-- whether two tests come out alike
+unfoldable pub alike : Bool → Bool → Bool
+alike a b = cond a b (not b)
+
+unfoldable pub sameTimes : Capped → Capped → Bool
+sameTimes a b =
+    eqb (a .«start_frame» .0) (b .«start_frame» .0)
+    && eqb (a .«duration_frames» .0) (b .«duration_frames» .0)
+    && alike (a .«past_playtime») (b .«past_playtime»)
+
+-- whether decoding fills a page of as many bytes as a text has, and with the text
+unfoldable pub decodesTo : List ℕ → ℕ → List ℕ → Bool
+decodesTo bytes code text =
+    eqb (decodeOf bytes code (length text) .len) (length text) && same (decodeInto bytes code (replicate (length text) 0)) text
+
+-- whether the definitions give a card's answer
+unfoldable pub passes : Card → Bool
+passes (frameCard t number) = eqb (frameNumber t .0) (number .0)
+passes (capCard start duration times) = sameTimes (capOf start duration cardPlaytime) times
+passes (byteCard b text) = decodesTo (b ∷ []) latin1 text
+passes (charsetCard code charset) = eqb (charsetOf code) charset
+passes (headerCard bytes sound) = alike (isSound bytes) sound
+
+unfoldable pub allPass : List Card → Bool
+allPass [] = true
+allPass (card ∷ rest) = passes card && allPass rest

@@ -1,0 +1,4 @@
+pub mod Cards
+pub mod CardLaws
+pub mod Example
+pub mod ExampleLaws

@@ -1,0 +1,149 @@
+//! Reading: the answer, and every lent byte, record and word.
+
+use super::answer::Answer;
+use super::memory::{Memory, Room};
+use crate::rust::sector_format;
+use crate::tally::Kind;
+use generate::Rng;
+use generate::disc::{Disc, MASTER, MASTER_SECTORS};
+use oracle::disc::is_detected;
+
+/// The first sector behind the master table.
+const BEHIND: usize = MASTER + MASTER_SECTORS;
+
+const REFUSALS: [&str; 6] =
+    ["refusal 1", "refusal 2", "refusal 3", "refusal 4", "refusal 5", "refusal 6"];
+
+/// Each warning that comes from a disc; 16 is none of them.
+const WARNINGS: [(u32, &str); 17] = [
+    (1, "warning 1"),
+    (2, "warning 2"),
+    (3, "warning 3"),
+    (4, "warning 4"),
+    (5, "warning 5"),
+    (6, "warning 6"),
+    (7, "warning 7"),
+    (8, "warning 8"),
+    (9, "warning 9"),
+    (10, "warning 10"),
+    (11, "warning 11"),
+    (12, "warning 12"),
+    (13, "warning 13"),
+    (14, "warning 14"),
+    (15, "warning 15"),
+    (17, "warning 17"),
+    (18, "warning 18"),
+];
+
+#[derive(Debug)]
+#[allow(dead_code)] // its fields are printed
+struct Question {
+    case: u64,
+    format: u32,
+    bytes: usize,
+    room: Room,
+}
+
+pub struct Reads {
+    pub read: Kind,
+    /// Each refusal, and each warning once for an image.
+    pub codes: Kind,
+}
+
+impl Reads {
+    pub fn new() -> Self {
+        let formats = ["format 0", "format 1", "format 2", "in the domain", "not in the domain"];
+        let short = ["544,767 bytes", "509 records", "1,536 words", "no bytes", "no words"];
+        let more = ["longer work", "longer records", "longer words", "no records"];
+        let order = ["1 before 2", "2 before 3", "2 before 6", "3 before 4"];
+        let cuts = ["inside a sector", "whole sectors", "519 sectors", "520 sectors", "no image"];
+        let half = ["accepted", "half accepted"];
+        let read = [&REFUSALS[..], &formats, &short, &more, &order, &cuts, &half];
+        let warnings = WARNINGS.map(|warning| warning.1);
+        Reads {
+            read: Kind::new("read_disc", &read.concat()),
+            codes: Kind::new("discs, codes", &[&REFUSALS[..], &warnings].concat()),
+        }
+    }
+
+    /// A disc, with memory that is mostly enough; what the Rust gives if that is not refused, or
+    /// with 6. The memory is left as the library leaves it.
+    pub fn case(
+        &mut self,
+        rng: &mut Rng,
+        case: u64,
+        disc: &Disc,
+        memory: &mut Memory,
+    ) -> Option<Answer> {
+        let rust = sector_format(disc.format).map(|_| Answer::read(disc));
+        let room = Room::any(rng, rust.as_ref().is_none_or(|answer| answer.refusal != 0));
+        let refused = match &rust {
+            None => Some(Answer::refused(1)),
+            Some(_) if room.is_short() => Some(Answer::refused(2)),
+            Some(_) => None,
+        };
+        self.count_order(disc, room, rust.as_ref());
+        let answer = refused.or(rust)?;
+        let library = memory.read(disc, room);
+        memory.write(disc, &answer);
+        let [library, rust] = memory.left(library, answer.record());
+        let question = Question { case, format: disc.format, bytes: disc.bytes.len(), room };
+        self.read.case(&question, answer.refusal, library, rust);
+        self.count(disc, room, &answer);
+        matches!(answer.refusal, 0 | 6).then_some(answer)
+    }
+
+    fn count_order(&mut self, disc: &Disc, room: Room, rust: Option<&Answer>) {
+        let kind = &mut self.read;
+        let refusal = rust.map_or(1, |answer| answer.refusal);
+        let short = room.is_short();
+        kind.class_if("1 before 2", refusal == 1 && short);
+        kind.class_if("2 before 3", refusal == 3 && short);
+        kind.class_if("2 before 6", refusal == 6 && short);
+        let signed = disc.sectors() > MASTER && disc.data(MASTER).starts_with(b"SACDMTOC");
+        kind.class_if("3 before 4", refusal == 3 && !signed);
+        let format = sector_format(disc.format);
+        let found = format.is_some_and(|format| is_detected(format, &disc.bytes));
+        kind.class_if("in the domain", found);
+        kind.class_if("not in the domain", !found);
+    }
+
+    fn count(&mut self, disc: &Disc, room: Room, answer: &Answer) {
+        let kind = &mut self.read;
+        let refusal = answer.refusal;
+        let exact = Room::EXACT;
+        kind.class_if("544,767 bytes", refusal == 2 && room.work == exact.work - 1);
+        kind.class_if("509 records", refusal == 2 && room.tracks == exact.tracks - 1);
+        kind.class_if("1,536 words", refusal == 2 && room.words == exact.words - 1);
+        kind.class_if("no bytes", refusal == 2 && room.work == 0);
+        kind.class_if("no records", refusal == 2 && room.tracks == 0);
+        kind.class_if("no words", refusal == 2 && room.words == 0);
+        kind.class_if("longer work", refusal == 0 && room.work > exact.work);
+        kind.class_if("longer records", refusal == 0 && room.tracks > exact.tracks);
+        kind.class_if("longer words", refusal == 0 && room.words > exact.words);
+        let inside = !disc.bytes.len().is_multiple_of(disc.form.stored);
+        kind.class_if("inside a sector", refusal == 0 && inside);
+        kind.class_if("whole sectors", refusal == 0 && !inside);
+        kind.class_if("519 sectors", refusal == 3 && disc.sectors() == BEHIND - 1);
+        kind.class_if("520 sectors", matches!(refusal, 0 | 6) && disc.sectors() == BEHIND);
+        kind.class_if("no image", refusal == 3 && disc.sectors() == 0);
+        for (format, class) in [(0, "format 0"), (1, "format 1"), (2, "format 2")] {
+            kind.class_if(class, refusal == 0 && disc.format == format);
+        }
+        self.codes.cases += 1;
+        self.codes.refused += u64::from(refusal != 0);
+        if let Some(class) = REFUSALS.get(usize::from(refusal).wrapping_sub(1)) {
+            self.codes.class(class, 1);
+        }
+        for (code, class) in WARNINGS {
+            self.codes.class_if(class, answer.words.iter().any(|word| word >> 16 == code));
+        }
+    }
+
+    /// Counts whether at least half of the discs are accepted, and asks for so many of each code.
+    pub fn finish(mut self, least: u64) -> Self {
+        self.read.class_if("half accepted", 2 * self.read.refused <= self.read.cases);
+        self.codes.least = least;
+        self
+    }
+}
