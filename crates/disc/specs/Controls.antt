@@ -35,6 +35,7 @@ use Rattle.disc.specs.Demand3.{firstPlace, secondPlace, LiesIn, masterTa
 use Rattle.disc.specs.Demand3Proof.{tables-same, demand3}
 use Rattle.disc.specs.Sample.{sampleTable, sample-kept, sample-count, sampleImage, image-length, image-sectors, first-bytes, second-bytes, sample-scarlet, sample-version, sample-minor, sample-served, sample-second, first-place, second-place}
 use Rattle.disc.specs.declared.master.MasterToc.{MasterToc}
+use Rattle.disc.specs.declared.answer.DiscAnswer.{DiscAnswer}
 
 -- ---- `Rewritten` allows any prefix, and any value for a byte that is not kept
 
@@ -171,11 +172,20 @@ silent-yields : (format : ℕ) (image : List ℕ) (memory : Memory) → slotYiel
 unfolding sayingSilent silent slotYields isAccepted
 silent-yields format image memory = refl
 
+-- any that yields nothing of the sample's first slot
+pub not-silent : (reader : ℕ → List ℕ → Memory → Outcome) → slotYields (reader 0 (firstSectors 0 603) lent) twoChannel ≡ none → ¬ Demand3 reader
+not-silent reader nothing d = no-some nothing (whole-yields reader d)
+
 pub not-always-silent : ¬ Demand3 sayingSilent
-not-always-silent d = no-some (silent-yields 0 (firstSectors 0 603) lent) (whole-yields sayingSilent d)
+not-always-silent = not-silent sayingSilent (silent-yields 0 (firstSectors 0 603) lent)
 
 -- ---- "One that finds no second copy before looking"
 
+-- any that yields nothing of the slot where only the second copy is left
+pub not-without-second : (reader : ℕ → List ℕ → Memory → Outcome) → slotYields (reader 0 (firstSectors 0 520) lent) twoChannel ≡ none → ¬ Demand3 reader
+not-without-second reader nothing d = no-some nothing (short-yields reader d)
+
+-- such as this
 pub firstOnly : ℕ → List ℕ → Memory → Outcome
 firstOnly format image memory =
     cond (readable format (length image) (firstPlace (pointer format image twoChannel) .lsn) (firstPlace (pointer format image twoChannel) .sectors))
@@ -191,15 +201,15 @@ first-lost =
     rw (place, lost)
 
 pub not-first-only : ¬ Demand3 firstOnly
-not-first-only d =
-    no-some (ap (λ (o : Outcome). slotYields o twoChannel) first-lost ∙ silent-yields 0 (firstSectors 0 520) lent) (short-yields firstOnly d)
+not-first-only =
+    not-without-second firstOnly (ap (λ (o : Outcome). slotYields o twoChannel) first-lost ∙ silent-yields 0 (firstSectors 0 520) lent)
 
--- ---- "One that returns one stock disc", whichever it is
+-- ---- "One that returns one stock disc", whichever it is and whatever it does to lent memory
 
-pub not-stock : (stock : Outcome) → ¬ Demand3 (λ format image memory. stock)
-not-stock stock d =
-    let a = cut-holds 0 603 (omega arith) (omega arith) (λ format image memory. stock) d .the-master in
-    let b = cut-holds 1 603 (omega arith) (omega arith) (λ format image memory. stock) d .the-master in
+pub not-stock : (stock : DiscAnswer) (after : ℕ → List ℕ → Memory → Memory) → ¬ Demand3 (λ format image memory. record { answer = stock; memory = after format image memory })
+not-stock stock after d =
+    let a = cut-holds 0 603 (omega arith) (omega arith) (λ format image memory. record { answer = stock; memory = after format image memory }) d .the-master in
+    let b = cut-holds 1 603 (omega arith) (omega arith) (λ format image memory. record { answer = stock; memory = after format image memory }) d .the-master in
     let e = sym (ap (λ (m : MasterToc). m .version .minor) a ∙ sample-minor 0) ∙ ap (λ (m : MasterToc). m .version .minor) b ∙ sample-minor 1 in
     omega (arith, e)
 
@@ -220,11 +230,11 @@ acceptsWith area format image memory = record {
   memory = memory;
 }
 
--- a record without tracks, whatever its flag
-pub not-empty-areas : (area : Declared.Area) → area .«track_count» ≡ 0 → ¬ Demand3 (acceptsWith area)
-unfolding acceptsWith handedBack areaFor givenAt
-not-empty-areas area no-tracks d =
-    let y = handed (acceptsWith area 0 (firstSectors 0 603) lent) twoChannel (givenAt 600) (whole-yields (acceptsWith area) d) in
+-- any whose record has no tracks, whatever its flag
+pub not-empty-areas : (reader : ℕ → List ℕ → Memory → Outcome) → areaFor (reader 0 (firstSectors 0 603) lent .answer) twoChannel .«track_count» ≡ 0 → ¬ Demand3 reader
+unfolding handedBack givenAt
+not-empty-areas reader no-tracks d =
+    let y = handed (reader 0 (firstSectors 0 603) lent) twoChannel (givenAt 600) (whole-yields reader d) in
     let e = ap (λ (a : Yielded). a .area .«track_count») y in
     omega (arith, e, no-tracks, one-track, addressed-track-count 600 (Area.areaGiven givenTable))
 

@@ -30,11 +30,11 @@ Whole p bytes = (length bytes ≡ p .«toc_sectors» * sectorSize) × (p .«toc_
 -- ---- the chosen copy, in any source of whole sectors
 module _ (source : Source) (p : AreaPointer) where
   -- whether there is one
-  abbrev pub readable : Bool
-  readable = isThere (firstCopy source p) || isThere (secondCopy source p)
+  abbrev pub eitherThere : Bool
+  eitherThere = isThere (firstCopy source p) || isThere (secondCopy source p)
 
   pub table-chosen : (slot : Slot) → slotTable source slot p
-      ≡ onlyIf readable (some (Area.areaOf (bytesOf (chosen source p)) (slotNumber slot) (chosenLsn p (isThere (firstCopy source p)) .0) (p .«toc_sectors»)))
+      ≡ onlyIf eitherThere (some (Area.areaOf (bytesOf (chosen source p)) (slotNumber slot) (chosenLsn p (isThere (firstCopy source p)) .0) (p .«toc_sectors»)))
   unfolding slotTable tableIn chosen chosenOf bytesOf isThere chosenLsn
   table-chosen slot = go (firstCopy source p) (secondCopy source p)
     where
@@ -47,7 +47,7 @@ module _ (source : Source) (p : AreaPointer) where
   -- its tracks are at most 255
   pub slot-tracks-few : (slot : Slot) → length (tracksIn (slotTable source slot p)) ≤ maxTracks
   unfolding tracksIn
-  slot-tracks-few slot = rw (table-chosen slot) (go readable)
+  slot-tracks-few slot = rw (table-chosen slot) (go eitherThere)
     where
       bytes : List ℕ
       bytes = bytesOf (chosen source p)
@@ -62,7 +62,7 @@ module _ (source : Source) (p : AreaPointer) where
           omega (arith, ap length same)
       go false = omega arith
 
-  pub chosen-without : readable ≡ false → bytesOf (chosen source p) ≡ []
+  pub chosen-without : eitherThere ≡ false → bytesOf (chosen source p) ≡ []
   unfolding chosen chosenOf bytesOf isThere
   chosen-without = go (firstCopy source p) (secondCopy source p)
     where
@@ -87,7 +87,7 @@ module _ (source : Source) (p : AreaPointer) where
     second-whole bytes e =
         run-size (isServed p && hasSecond p) (p .«toc2_lsn» .0) bytes (λ t. and-eq-true-iff (isServed p) (hasSecond p) .0 t .0) e
 
-    pub chosen-whole : readable ≡ true → Whole p (bytesOf (chosen source p))
+    pub chosen-whole : eitherThere ≡ true → Whole p (bytesOf (chosen source p))
     unfolding chosen chosenOf bytesOf isThere
     chosen-whole = go (firstCopy source p) (secondCopy source p) refl refl
       where
@@ -97,8 +97,8 @@ module _ (source : Source) (p : AreaPointer) where
         go none none q r e = let z : _≡_ {A = ℕ} 0 1 = cc in absurd (omega arith)
 
     pub chosen-fits : length (bytesOf (chosen source p)) ≤ maxTableBytes
-    chosen-fits = go readable refl
+    chosen-fits = go eitherThere refl
       where
-        go : (t : Bool) → readable ≡ t → length (bytesOf (chosen source p)) ≤ maxTableBytes
+        go : (t : Bool) → eitherThere ≡ t → length (bytesOf (chosen source p)) ≤ maxTableBytes
         go true e = let w = chosen-whole e in omega arith
         go false e = rw (chosen-without e) (omega arith)

@@ -8,8 +8,8 @@ use Rattle.disc.specs.Disc.{readDisc}
 use Rattle.disc.specs.Demand3.{Roomy, Rewritten, OneCut, TwoCuts}
 use Rattle.disc.specs.Demand3Proof.{demand3}
 
--- what a call hands back by what it is lent: the proposition of the `ensures` of `read_disc`, whose outcome is the answer beside the work
--- bytes, tracks and words at exit, and whose memory are those at entry
+-- what a call hands back by what it is lent: the four equations of `read_disc`'s `ensures` as one, whose outcome is the answer beside the work
+-- bytes, tracks and words at exit, and whose memory are those at entry (`Demanded` among the proofs makes it of them)
 abbrev pub Read : ℕ → List ℕ → Memory → Outcome → Type 0
 Read format image memory outcome = outcome ≡ readDisc format image memory
 

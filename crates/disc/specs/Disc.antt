@@ -19,7 +19,7 @@ use Rattle.area.specs.Warning.{wordOf}
 use Rattle.area.specs.declared.track.Track.{Track}
 use Rattle.area.specs.declared.warning.Warning.{Warning}
 use Rattle.disc.specs.Slot.{Slot, twoChannel, multichannel, regionAt, masterRegion, tracksAt, workBytes, trackRecords, warningWords}
-use Rattle.disc.specs.Master.{masterLsn, masterSectors, isScarletBook, isNewer, pointerOf, hasText, hasManufacturer, masterOf, noMaster}
+use Rattle.disc.specs.Master.{masterLsn, masterSectors, textChannelsOffset, isScarletBook, isNewer, pointerOf, hasText, hasManufacturer, masterOf, noMaster}
 use Rattle.disc.specs.Refusal.{masterTocTruncated, notScarletBook, versionUnsupported}
 use Rattle.disc.specs.Warning.{masterTextMissing, manufacturerMissing, masterTocCopiesDiffer}
 use Rattle.disc.specs.Copies.{chosen, bytesOf, hasArea, areaIn, tracksIn, slotTable, slotWarnings}
@@ -76,7 +76,7 @@ masterCopiesDiffer source table =
 unfoldable pub discWarnings : Bool → List ℕ → List Warning
 discWarnings differ table =
     whenTrue differ (ofDisc masterTocCopiesDiffer)
-    ++ whenTrue (not (hasText table) && ltb 0 (beAt table 128 1)) (ofDisc masterTextMissing)
+    ++ whenTrue (not (hasText table) && ltb 0 (beAt table textChannelsOffset 1)) (ofDisc masterTextMissing)
     ++ whenTrue (not (hasManufacturer table)) (ofDisc manufacturerMissing)
 
 -- the disc's, then each slot's: "Two-channel, then multichannel."

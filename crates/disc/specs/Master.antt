@@ -40,14 +40,18 @@ masterSignature = 83 ∷ 65 ∷ 67 ∷ 68 ∷ 77 ∷ 84 ∷ 79 ∷ 67 ∷ []
 unfoldable pub isScarletBook : List ℕ → Bool
 isScarletBook table = signedAt table 0 masterSignature
 
--- "master major version above 1"
+-- "Offsets as in `read_master`": its major version
 unfoldable pub majorVersion : List ℕ → ℕ
 majorVersion table = beAt table 8 1
 
-unfoldable pub isNewer : List ℕ → Bool
-isNewer table = ltb 1 (majorVersion table)
+-- "master major version above 1"
+abbrev pub maxMajorVersion : ℕ
+maxMajorVersion = 1
 
--- ---- its parts
+unfoldable pub isNewer : List ℕ → Bool
+isNewer table = ltb maxMajorVersion (majorVersion table)
+
+-- ---- its parts: "Offsets as in `read_master`"
 -- `pointer`: TOC-1's LSN, TOC-2's LSN and the sector count, each at its own offset
 unfoldable pub pointerAt : List ℕ → ℕ → ℕ → ℕ → AreaPointer
 pointerAt table toc1 toc2 sectors =
@@ -58,6 +62,7 @@ unfoldable pub pointerOf : List ℕ → Slot → AreaPointer
 pointerOf table twoChannel = pointerAt table 64 68 84
 pointerOf table multichannel = pointerAt table 72 76 86
 
+-- the date: year, month and day
 unfoldable pub dateAt : List ℕ → Date
 dateAt table = record { year = beAt table 120 2; month = beAt table 122 1; day = beAt table 123 1 }
 
@@ -67,6 +72,10 @@ genreCount = 4
 
 unfoldable pub genresAt : List ℕ → ℕ → List Genre
 genresAt table at = tabulate genreCount (λ k. genreAt table (at + 4 * k))
+
+-- where the text channel count stands
+abbrev pub textChannelsOffset : ℕ
+textChannelsOffset = 128
 
 -- "at most 8 locales"
 abbrev pub maxLocales : ℕ
@@ -139,9 +148,9 @@ masterOf table = record {
   «disc_catalog_number_stored» = fixedBytesOf (discField table);
   «disc_genres» = genresAt table 104;
   date = dateAt table;
-  «text_channel_count» = beAt table 128 1;
-  «locale_count» = localeCount (beAt table 128 1);
-  locales = localesAt table (beAt table 128 1);
+  «text_channel_count» = beAt table textChannelsOffset 1;
+  «locale_count» = localeCount (beAt table textChannelsOffset 1);
+  locales = localesAt table (beAt table textChannelsOffset 1);
   «text_charset» = beAt table 138 1;
   text = discTextsAt table;
   manufacturer = manufacturerFlag table;

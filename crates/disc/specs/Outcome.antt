@@ -19,6 +19,7 @@ pub record Memory : Type 0 where
   pub tracks : List Track
   pub words : List ℕ
 
+-- what a reading hands back: the answer, and what it leaves in lent memory
 pub record Outcome : Type 0 where
   pub answer : DiscAnswer
   pub memory : Memory

@@ -1,4 +1,4 @@
--- The numbers of refusals (01, "What the desk gets back") that this layer gives; 0 where nothing is refused.
+-- The numbers of refusals (01, "What the desk gets back") that this layer gives; 0 where nothing is refused. Assumes nothing.
 use Prim.Native.Nat.{ℕ}
 
 -- "3 | cut master | fewer than 520 whole sectors"

@@ -28,7 +28,7 @@ unfoldable pub tracksAt : Slot → ℕ
 tracksAt twoChannel = 0
 tracksAt multichannel = 255
 
--- "Disc reading borrows the image, 544,768 work bytes, 510 track records, 1,537 warning words (32 bits)."
+-- "Disc reading borrows the image, 544,768 work bytes, 510 track records"
 abbrev pub workBytes : ℕ
 workBytes = 544768
 
@@ -45,6 +45,7 @@ maxCopyWarnings = 1
 abbrev pub maxSlotWarnings : ℕ
 maxSlotWarnings = maxCopyWarnings + (maxHeadWarnings + maxTracks * maxTrackWarnings)
 
+-- "1,537 warning words (32 bits)": for all of them (`words-asked` has the number)
 abbrev pub warningWords : ℕ
 warningWords = maxDiscWarnings + 2 * maxSlotWarnings
 

@@ -29,7 +29,7 @@ use Rattle.disc.specs.Slot.{Slot, twoChannel, multichannel, slotNumber, 
 use Rattle.disc.specs.Steps.{slotHead, planWarnings, slotTracks, slotNotes}
 use Rattle.disc.specs.declared.master.AreaPointer.{AreaPointer}
 use Rattle.disc.specs.RegionLaws.{region-begins}
-use Rattle.disc.specs.CopyLaws.{readable, table-chosen, chosen-whole}
+use Rattle.disc.specs.CopyLaws.{eitherThere, table-chosen, chosen-whole}
 
 -- ---- a head and its warnings give what a table gives: its area, its tracks, its warnings
 record Gives (lent : List ℕ) (head : TableHead) (warned : List Warning) (t : Option Table) : Type 0 where
@@ -94,7 +94,7 @@ module _ (source : Source) (sized : Sized source) (table work : List ℕ) (whole
   abbrev copy : Slot → List ℕ
   copy slot = bytesOf (chosen source (pointerOf table slot))
 
-  region-held : (slot : Slot) → readable source (pointerOf table slot) ≡ true
+  region-held : (slot : Slot) → eitherThere source (pointerOf table slot) ≡ true
       → tableBytes (pointerOf table slot .«toc_sectors») (regionOf (slotNumber slot) (workAfter source table work)) ≡ copy slot
   region-held slot there =
       let w = chosen-whole source (pointerOf table slot) sized there in
@@ -113,11 +113,11 @@ module _ (source : Source) (sized : Sized source) (table work : List ℕ) (whole
     read = slotHead (workAfter source table work) (slotNumber slot) (copiesOf source p)
 
     abbrev warned : List Warning
-    warned = cond (readable source p) (Area.headWarnings (slotNumber slot) read) []
+    warned = cond (eitherThere source p) (Area.headWarnings (slotNumber slot) read) []
 
     slot-gives : Gives lent read warned (slotTable source slot p)
     unfolding slotHead copiesOf
-    slot-gives = go (readable source p) refl
+    slot-gives = go (eitherThere source p) refl
       where
         table-at : List ℕ → Table
         table-at bytes = Area.areaOf bytes (slotNumber slot) (chosenLsn p (isThere (firstCopy source p)) .0) (p .«toc_sectors»)
@@ -125,7 +125,7 @@ module _ (source : Source) (sized : Sized source) (table work : List ℕ) (whole
         found : TableHead
         found = Area.headOf (tableBytes (p .«toc_sectors») lent) (slotNumber slot) (chosenLsn p (isThere (firstCopy source p)) .0) (p .«toc_sectors»)
 
-        go : (t : Bool) → readable source p ≡ t
+        go : (t : Bool) → eitherThere source p ≡ t
             → Gives lent (cond t found Area.noHead) (cond t (Area.headWarnings (slotNumber slot) (cond t found Area.noHead)) []) (slotTable source slot p)
         go true e =
             subst (Gives lent found (Area.headWarnings (slotNumber slot) found))

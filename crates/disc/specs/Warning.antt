@@ -1,5 +1,4 @@
--- The codes of warnings that this layer gives (01, "Area" and "Disc": "codes 1 to 18 in the order of `WarningCode`"). "Code 16 never comes
--- here."
+-- The codes of warnings that this layer knows (01, "Area" and "Disc": "codes 1 to 18 in the order of `WarningCode`"). Assumes nothing.
 use Prim.Native.Nat.{ℕ}
 
 abbrev pub masterTextMissing : ℕ
@@ -23,6 +22,7 @@ areaTocCopiesDiffer = 6
 abbrev pub areaTocUnreadable : ℕ
 areaTocUnreadable = 7
 
+-- "Code 16 never comes here."
 abbrev pub audioSectorMalformed : ℕ
 audioSectorMalformed = 16
 

@@ -14,6 +14,7 @@ use Rattle.area.specs.LentLaws.{when-length}
 use Rattle.area.specs.Limits.{maxTracks, maxHeadWarnings, maxTrackWarnings}
 use Rattle.area.specs.Table as Area
 use Rattle.area.specs.TableLaws.{area-of, address-warnings, warnings-most}
+use Rattle.area.specs.Lone.{tableWords}
 use Rattle.disc.specs.Copies.{isUsed, isTooLarge, hasSecond, firstCopy, secondCopy, isThere, unequal, copiesOf, servedWarnings, copyWarnings, chosenOf, chosen, tableIn, warningsIn, slotTable, slotWarnings}
 use Rattle.disc.specs.Disc.{masterCopiesDiffer, discWarnings, warningsOf}
 use Rattle.disc.specs.Master.{hasText, hasManufacturer, pointerOf}
@@ -109,3 +110,7 @@ warnings-fit source table =
       slot-warnings-most source twoChannel (pointerOf table twoChannel),
       slot-warnings-most source multichannel (pointerOf table multichannel),
     )
+
+-- "1,537 warning words", "766 words": the numbers that they are made of give these
+pub words-asked : (warningWords ≡ 1537) × (tableWords ≡ 766)
+words-asked = (refl, refl)

@@ -3,6 +3,7 @@ ghost use mathlib.Core.Path.{_≡_};
 ghost use mathlib.Core.Bool.{cond};
 ghost use Rattle.disc.specs.Copies.{isUsed, isTooLarge, isServed, hasSecond, noCopies, firstReadable, secondReadable, chosenLsn};
 use crate::master::AreaPointer;
+use crate::master::no_pointer;
 use area::table::MAX_AREA_TOC_SECTORS;
 use sectors::sector::Lsn;
 use sectors::sector::contains;
@@ -87,11 +88,7 @@ pub(crate) fn no_copies() -> SlotCopies
     ensures { λ r. ⌜ r ≡ noCopies ⌝ }
 {
     SlotCopies {
-        pointer: AreaPointer {
-            toc1_lsn: Lsn(0),
-            toc2_lsn: Lsn(0),
-            toc_sectors: 0,
-        },
+        pointer: no_pointer(),
         toc1: false,
         toc2: false,
         differ: false,

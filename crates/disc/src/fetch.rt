@@ -50,6 +50,11 @@ const SECOND_MASTER_LSN: u32 = 520;
 
 const THIRD_MASTER_LSN: u32 = 530;
 
+// The largest major version that is read, and where a master table has its own.
+const MAX_MAJOR_VERSION: u8 = 1;
+
+const MAJOR_VERSION_OFFSET: usize = 8;
+
 // What a fetch finds: whether a copy of the master table differs from it, and what is known of each slot's copies.
 pub(crate) struct Fetched {
     pub differ: bool,
@@ -64,7 +69,7 @@ fn master_refusal(sector: &[u8]) -> u8
     if !has_signature(sector, 0, *b"SACDMTOC") {
         return NOT_SCARLET_BOOK;
     }
-    if 1 < byte_at(sector, 8) {
+    if MAX_MAJOR_VERSION < byte_at(sector, MAJOR_VERSION_OFFSET) {
         return VERSION_UNSUPPORTED;
     }
     0

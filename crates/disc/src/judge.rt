@@ -13,6 +13,7 @@ use crate::copies::chosen_lsn;
 use crate::copies::has_second;
 use crate::copies::is_too_large;
 use crate::copies::is_used;
+use crate::master::TEXT_CHANNELS_OFFSET;
 use crate::master::has_manufacturer;
 use crate::master::has_text;
 use crate::regions::region_of;
@@ -60,7 +61,7 @@ pub(crate) fn push_disc(words: &mut [u32], differ: bool, table: &[u8]) -> usize
     ensures written { λ r. ⌜ now (words .exit) ≡ sets (now (words .entry)) 0 (map wordOf (discWarnings differ (now (table .entry)))) ⌝ }
     ensures counted { λ r. ⌜ r ≡ counted (now (words .entry)) 0 (discWarnings differ (now (table .entry))) ⌝ }
 {
-    let no_text = !has_text(table) & (0 < byte_at(table, 128));
+    let no_text = !has_text(table) & (0 < byte_at(table, TEXT_CHANNELS_OFFSET));
     let n = push_of(words, 0, differ, MASTER_TOC_COPIES_DIFFER, 0);
     let m = push_of(words, n, no_text, MASTER_TEXT_MISSING, 0);
     push_of(words, m, !has_manufacturer(table), MANUFACTURER_MISSING, 0)

@@ -1,6 +1,6 @@
 // The master record, from the master table's 20,480 bytes.
 ghost use mathlib.Core.Path.{_≡_};
-ghost use Rattle.disc.specs.Master.{pointerAt, pointerOf, dateAt, genresAt, localeCount, localesAt, hasText, hasManufacturer, discTextsAt, manufacturerFlag, masterOf, noMaster};
+ghost use Rattle.disc.specs.Master.{pointerAt, pointerOf, dateAt, genresAt, localeCount, localesAt, hasText, hasManufacturer, discTextsAt, manufacturerFlag, masterOf, noPointer, noMaster};
 ghost use Rattle.disc.specs.Slot.{twoChannel, multichannel};
 use area::area::Version;
 use area::bytes::part_of;
@@ -28,6 +28,9 @@ pub const MASTER_TOC_LSN: u32 = 510;
 pub const MASTER_TOC_SECTORS: usize = 10;
 
 pub const MASTER_TOC_BYTES: usize = MASTER_TOC_SECTORS * SECTOR_SIZE;
+
+// Where the text channel count stands.
+pub(crate) const TEXT_CHANNELS_OFFSET: usize = 128;
 
 // Locales that a master record holds at most, and where they stand.
 pub const MAX_DISC_LOCALES: usize = 8;
@@ -215,7 +218,7 @@ pub(crate) fn master_of(table: &[u8]) -> MasterToc
 {
     let album = part_of(table, 24, FIELD_SIZE);
     let disc = part_of(table, 88, FIELD_SIZE);
-    let channels = byte_at(table, 128);
+    let channels = byte_at(table, TEXT_CHANNELS_OFFSET);
     MasterToc {
         version: Version {
             major: byte_at(table, 8),
@@ -242,6 +245,17 @@ pub(crate) fn master_of(table: &[u8]) -> MasterToc
     }
 }
 
+// The pointers of a slot that is not used.
+pub(crate) fn no_pointer() -> AreaPointer
+    ensures { λ r. ⌜ r ≡ noPointer ⌝ }
+{
+    AreaPointer {
+        toc1_lsn: Lsn(0),
+        toc2_lsn: Lsn(0),
+        toc_sectors: 0,
+    }
+}
+
 // The zero record, where there is no master record.
 pub(crate) fn no_master() -> MasterToc
     ensures { λ r. ⌜ r ≡ noMaster ⌝ }
@@ -254,11 +268,7 @@ pub(crate) fn no_master() -> MasterToc
         category: 0,
         index: 0,
     }; GENRES];
-    let pointer = AreaPointer {
-        toc1_lsn: Lsn(0),
-        toc2_lsn: Lsn(0),
-        toc_sectors: 0,
-    };
+    let pointer = no_pointer();
     MasterToc {
         version: Version { major: 0, minor: 0 },
         album_set_size: 0,

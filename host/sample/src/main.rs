@@ -1,9 +1,11 @@
-//! Stores tables and what the customer's Rust answers to them, for the programs `replay` and
-//! `stored_tables`, which need no Rust. `--check` asks the Rust again about what is stored.
+//! Stores tables and discs, and what the customer's Rust answers to them, for the programs `replay`,
+//! `stored_tables` and `stored_discs`, which need no Rust. `--check` asks the Rust again about what
+//! is stored.
 //!
 //! Exit status: 0 all is written, or is what the Rust answers; 1 the Rust answers something else;
 //! 2 bad usage, or a file that cannot be read or written.
 
+mod disc;
 mod listing;
 mod named;
 mod runs;
@@ -25,9 +27,11 @@ const STORED: usize = 1200;
 const DATA: &str = "stored_tables/data";
 const NAMES: &str = "stored_tables/args";
 const TABLES: &str = "replay/stdin";
+const DISCS: &str = "stored_discs/stdin";
 /// The files of the answers.
 const NAMED_ANSWERS: &str = "stored_tables/stdout";
 const ANSWERS: &str = "replay/stdout";
+const DISC_ANSWERS: &str = "stored_discs/stdout";
 
 /// Tables at random that are stored in few bytes.
 fn random() -> impl Iterator<Item = Vec<u8>> {
@@ -52,10 +56,18 @@ fn write_tables(crates: &Path) -> Result<()> {
     named.iter().try_for_each(|(name, table)| fs::write(crates.join(DATA).join(name), table))
 }
 
-/// The files of the answers, and what the Rust answers to the tables that are stored.
-fn answers(crates: &Path) -> Result<[(&'static str, String); 2]> {
-    let tables = runs::tables(&fs::read(crates.join(TABLES))?);
-    let tables = tables.ok_or_else(|| Error::new(ErrorKind::InvalidData, "no list of tables"))?;
+fn write_discs(crates: &Path) -> Result<()> {
+    fs::create_dir_all(crates.join("stored_discs"))?;
+    fs::write(crates.join(DISCS), disc::stored())
+}
+
+fn no_list() -> Error {
+    Error::new(ErrorKind::InvalidData, "no list of tables or discs")
+}
+
+/// The files of the answers, and what the Rust answers to the tables and discs that are stored.
+fn answers(crates: &Path) -> Result<[(&'static str, String); 3]> {
+    let tables = runs::tables(&fs::read(crates.join(TABLES))?).ok_or_else(no_list)?;
     let numbered = tables.iter().enumerate();
     let answers = numbered.map(|(i, table)| answer(&format!("table {}", i + 1), table));
     let names = fs::read_to_string(crates.join(NAMES))?;
@@ -63,7 +75,10 @@ fn answers(crates: &Path) -> Result<[(&'static str, String); 2]> {
         let table = fs::read(crates.join(DATA).join(name))?;
         Ok(answer(name, &table))
     });
-    Ok([(ANSWERS, answers.collect()), (NAMED_ANSWERS, named.collect::<Result<_>>()?)])
+    let discs = disc::discs(&fs::read(crates.join(DISCS))?).ok_or_else(no_list)?;
+    let named_answers = named.collect::<Result<_>>()?;
+    let disc_answers = discs.iter().map(disc::lines).collect();
+    Ok([(ANSWERS, answers.collect()), (NAMED_ANSWERS, named_answers), (DISC_ANSWERS, disc_answers)])
 }
 
 /// A table's name, on a line, and its listing.
@@ -73,6 +88,7 @@ fn answer(name: &str, table: &[u8]) -> String {
 
 fn write(crates: &Path) -> Result<u8> {
     write_tables(crates)?;
+    write_discs(crates)?;
     for (file, answers) in answers(crates)? {
         fs::write(crates.join(file), answers)?;
     }

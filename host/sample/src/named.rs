@@ -7,7 +7,7 @@ type Named = (&'static str, Vec<u8>);
 
 /// Sub-structures from sector 1 on, in a table of so many sectors: both track lists have one track
 /// from address 1000 on, 500 sectors long, and 1:0:1 in time; the play time is 1:0:0.
-fn table(structures: &[&[u8; 8]], sectors: usize) -> Vec<u8> {
+pub fn table(structures: &[&[u8; 8]], sectors: usize) -> Vec<u8> {
     let mut table = vec![0; sectors * DATA];
     put(&mut table, 0, b"TWOCHTOC");
     put(&mut table, 20, &[4]);
@@ -29,11 +29,11 @@ fn table(structures: &[&[u8; 8]], sectors: usize) -> Vec<u8> {
 }
 
 /// The document's example.
-fn example() -> Vec<u8> {
+pub fn example() -> Vec<u8> {
     table(&[b"SACDTRL1", b"SACDTRL2"], 3)
 }
 
-fn with(table: Vec<u8>, at: usize, bytes: &[u8]) -> Vec<u8> {
+pub fn with(table: Vec<u8>, at: usize, bytes: &[u8]) -> Vec<u8> {
     let mut table = table;
     put(&mut table, at, bytes);
     table
@@ -57,7 +57,7 @@ fn put_times(table: &mut [u8], list: usize, track: usize, start: [u8; 3], durati
 }
 
 /// So many tracks, each at its own address and time.
-fn tracks(count: u8) -> Vec<u8> {
+pub fn tracks(count: u8) -> Vec<u8> {
     let mut table = with(with(example(), 69, &[count]), 64, &[255, 59, 74]);
     for track in 0..count {
         let at = usize::from(track);
@@ -106,7 +106,7 @@ fn texts(texts: &[&[u8]]) -> Vec<u8> {
 }
 
 /// Text offsets: none, the last that fits, one past it, the largest.
-fn offsets() -> Vec<u8> {
+pub fn offsets() -> Vec<u8> {
     let mut table = texts(&[&b"\x01\0\0\0\x01\0Title\0"[..]; 5]);
     for (track, offset) in [0, 4092, 4093, 65_535].into_iter().enumerate() {
         put16(&mut table, 3 * DATA + 8 + 2 * track, offset);
@@ -115,7 +115,7 @@ fn offsets() -> Vec<u8> {
 }
 
 /// Items of every sort.
-fn items() -> Vec<u8> {
+pub fn items() -> Vec<u8> {
     texts(&[
         b"\x02\0\0\0\x01\0Title\0\x81\0Phonetic\0",
         b"\x01\0\0\0\x08\0Unknown\0",
@@ -157,7 +157,7 @@ fn all_warnings() -> Vec<u8> {
 }
 
 /// So many locales, one after the other.
-fn locales(channels: u8) -> Vec<u8> {
+pub fn locales(channels: u8) -> Vec<u8> {
     let mut table = with(example(), 80, &[channels]);
     for locale in 0..11 {
         put(&mut table, 88 + 4 * locale, &[b'a' + locale as u8, b'z', locale as u8, 1]);
@@ -176,14 +176,14 @@ fn twice() -> Vec<u8> {
 }
 
 /// Lists of ISRCs and genres, twice; the second has an entry.
-fn isrcs() -> Vec<u8> {
+pub fn isrcs() -> Vec<u8> {
     let order = [b"SACD_IGL", b"SACDTRL2", b"SACD_IGL", b"SACDTRL1"];
     let table = table(&order, 7);
     with(table, 4 * DATA + 8, b"GBAAA2500001")
 }
 
 /// The area's four texts, in set 3.
-fn area_texts(code: u8) -> Vec<u8> {
+pub fn area_texts(code: u8) -> Vec<u8> {
     let mut table = with(example(), 90, &[code]);
     put(&mut table, 160, b"Description\0Copyright \xa9\0");
     for (item, place) in [160, 172, 0, 6143].into_iter().enumerate() {

@@ -1,4 +1,4 @@
-//! Tables as their runs of nonzero bytes.
+//! Tables and images as their runs of nonzero bytes.
 
 /// So many zeros in a row end a run: a run takes 8 bytes more than it has.
 const GAP: usize = 9;
@@ -38,12 +38,13 @@ fn end_of_run(table: &[u8], begin: usize) -> usize {
     zero
 }
 
-/// The tables whose runs these are, one after the other; nothing for other bytes.
-pub fn tables(stored: &[u8]) -> Option<Vec<Vec<u8>>> {
-    let mut tables = vec![];
+/// The table whose runs these bytes begin with, and what stands behind them; nothing for other
+/// bytes.
+pub fn table(stored: &[u8]) -> Option<(Vec<u8>, &[u8])> {
     let mut table = vec![];
     let mut rest = stored;
-    while let Some((head, more)) = rest.split_first_chunk() {
+    loop {
+        let (head, more) = rest.split_first_chunk()?;
         let head = u64::from_be_bytes(*head);
         let (place, count) = ((head >> 32) as usize, head as u32 as usize);
         let (run, more) = more.split_at_checked(count)?;
@@ -51,13 +52,24 @@ pub fn tables(stored: &[u8]) -> Option<Vec<Vec<u8>>> {
             return None;
         }
         table.resize(place, 0);
-        table.extend(run);
         if count == 0 {
-            tables.push(std::mem::take(&mut table));
+            return Some((table, more));
         }
+        table.extend(run);
         rest = more;
     }
-    (rest.is_empty() && table.is_empty()).then_some(tables)
+}
+
+/// The tables whose runs these are, one after the other; nothing for other bytes.
+pub fn tables(stored: &[u8]) -> Option<Vec<Vec<u8>>> {
+    let mut tables = vec![];
+    let mut rest = stored;
+    while !rest.is_empty() {
+        let (table, more) = table(rest)?;
+        tables.push(table);
+        rest = more;
+    }
+    Some(tables)
 }
 
 #[test]

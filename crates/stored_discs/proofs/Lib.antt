@@ -1,0 +1,2 @@
+pub mod LocalArray
+pub mod TrackList
