@@ -6,8 +6,8 @@ use mathlib.Core.List.{List}
 use mathlib.Core.Logic.{_≢_}
 use mathlib.Core.Option.{Option, none, some}
 use mathlib.Core.Path.{_≡_, refl, sym, ap, _∙_}
-use borrow.Author.Tests.{ne-eqb, eq-eqb, eqb-false, le-ltb, ltb-false, not-true}
-use lib.Dec.{ltb, eqb}
+use borrow.Author.Tests.{ne-eqb, eq-eqb, eqb-false, le-ltb, not-true}
+use lib.Dec.{eqb}
 use Rattle.sectors.specs.OptionLaws.{some-eq, no-some}
 use Rattle.sectors.specs.Options.{onlyIf}
 use Rattle.sectors.specs.Source.{Source, runOf}
@@ -18,6 +18,7 @@ use Rattle.area.specs.Table as Area
 use Rattle.area.specs.TableLaws.{head-skips, present-given, address-tracks, addressed-present, area-of, address-area, address-no-area, area-yields}
 use Rattle.disc.specs.Slot.{Slot, slotNumber}
 use Rattle.disc.specs.Copies.{isUsed, isTooLarge, isServed, hasSecond, firstCopy, secondCopy, Copy, chosenOf, chosen, tableIn, hasArea, areaIn, tracksIn}
+use Rattle.disc.specs.CopyLaws.{served-few}
 use Rattle.disc.specs.Outcome.{Yielded, isPresent}
 use Rattle.disc.specs.Demand3.{Place, Served, firstPlace, secondPlace, HasSecond, Names, the-first, the-second, yieldedBy, areaFrom}
 use Rattle.disc.specs.declared.master.AreaPointer.{AreaPointer}
@@ -44,7 +45,7 @@ served-is p e =
     record {
       toc1-nonzero = nonzero (p .«toc1_lsn» .0) (used .0);
       sectors-nonzero = nonzero (p .«toc_sectors») (used .1);
-      sectors-few = ltb-false maxAreaTocSectors (p .«toc_sectors») (not-true (ltb maxAreaTocSectors (p .«toc_sectors»)) (all .1));
+      sectors-few = served-few p e;
     }
 
 served-false : (p : AreaPointer) → ¬ Served p → isServed p ≡ false

@@ -6,7 +6,7 @@ use mathlib.Core.Path.{_≡_, refl, sym, ap, _∙_}
 use mathlib.Core.Logic.{_↔_}
 use mathlib.Core.Bool.{Bool, true, false, cond, not, _&&_, _||_}
 use mathlib.Core.List.{List, []}
-use mathlib.Core.Option.{none, some}
+use mathlib.Core.Option.{some}
 use lib.Dec.{ltb, eqb}
 use lib.ListN.{length, take}
 use lib.Seq.{take-all}
@@ -26,6 +26,7 @@ use Rattle.sectors.specs.Source.{imageSource, runOf}
 use Rattle.sectors.specs.SourceLaws.{image-run, image-no-run}
 use Rattle.sectors.specs.declared.run.Comparison.{Comparison}
 use Rattle.area.specs.TestLaws.{or-left, or-right}
+use Rattle.disc.specs.CopyLaws.{chosen-without}
 use Rattle.disc.specs.Copies.{isServed, hasSecond, firstCopy, secondCopy, isThere, unequal, Copy, chosenOf, chosen, bytesOf, firstReadable, secondReadable, chosenLsn}
 use Rattle.disc.specs.Disc.{isShort, refused, reads, judged, masterIn, imageMaster, secondMasterLsn, thirdMasterLsn, isUnequal, masterCopiesDiffer}
 use Rattle.disc.specs.Master.{masterLsn, masterSectors, masterBytes, masterSignature, isScarletBook, majorVersion, isNewer}
@@ -104,23 +105,12 @@ module _ (format : ℕ) (image : List ℕ) where
         go false true e = refl
         go false false e = let z : _≡_ {A = ℕ} 0 1 = cc in absurd (omega arith)
 
-    pub chosen-none : (first || second) ≡ false → chosen (imageSource format image) p ≡ none
-    unfolding chosenOf
-    chosen-none neither = chosen-so ∙ go first second neither
-      where
-        go : (a b : Bool) → (a || b) ≡ false → chosenOf p (onlyIf a (some firstRun)) (onlyIf b (some secondRun)) ≡ none
-        go true b e = let z : _≡_ {A = ℕ} 0 1 = cc in absurd (omega arith)
-        go false true e = let z : _≡_ {A = ℕ} 0 1 = cc in absurd (omega arith)
-        go false false e = refl
-
-    -- its bytes
     pub chosen-bytes : (first || second) ≡ true → bytesOf (chosen (imageSource format image) p) ≡ runData format image (chosenLsn p first .0) (p .«toc_sectors»)
     unfolding bytesOf
     chosen-bytes either = ap bytesOf (chosen-is either)
 
     pub chosen-no-bytes : (first || second) ≡ false → bytesOf (chosen (imageSource format image) p) ≡ []
-    unfolding bytesOf
-    chosen-no-bytes neither = ap bytesOf (chosen-none neither)
+    chosen-no-bytes neither = chosen-without (imageSource format image) p ((λ i. sym first-readable i || sym second-readable i) ∙ neither)
 
     -- whether the copies differ
     pub copies-differ : unequal (firstCopy (imageSource format image) p) (secondCopy (imageSource format image) p)

@@ -1,7 +1,7 @@
 //! What is lent to the reading of a disc, and what it leaves.
 
 use super::answer::Answer;
-use crate::tables::{first_difference, patterned_tracks, patterned_words};
+use crate::tables::{first_difference, patterned_tracks, patterned_words, write};
 use generate::Rng;
 use generate::disc::Disc;
 use generate::image::pattern;
@@ -101,14 +101,14 @@ impl Memory {
             return;
         }
         let Lent { work, tracks, words } = &mut self.theirs;
-        put(work, REGIONS[2], &disc.master());
+        write(&mut work[REGIONS[2]..], &disc.master());
         for slot in 0..2 {
             if let Some(table) = &answer.tables[slot] {
-                put(work, REGIONS[slot], table);
+                write(&mut work[REGIONS[slot]..], table);
             }
-            put(tracks, FIRST_TRACKS[slot], &answer.tracks[slot]);
+            write(&mut tracks[FIRST_TRACKS[slot]..], &answer.tracks[slot]);
         }
-        put(words, 0, &answer.words);
+        write(words, &answer.words);
     }
 
     /// What the library and the Rust leave of all memory, that which is not lent too.
@@ -132,8 +132,4 @@ impl Memory {
             lent.words.copy_from_slice(&self.before.words);
         }
     }
-}
-
-fn put<T: Copy>(list: &mut [T], at: usize, new: &[T]) {
-    list[at..at + new.len()].copy_from_slice(new);
 }
