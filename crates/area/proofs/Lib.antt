@@ -1,4 +1,5 @@
 pub mod Again
 pub mod Elem
 pub mod Filling
+pub mod Keeping
 pub mod Walking

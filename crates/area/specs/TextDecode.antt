@@ -2,11 +2,11 @@
 -- its record's sector count, and 255 records .. and trusts nothing in them". Assumes nothing.
 use Prim.Native.Nat.{ℕ, _-_, min}
 use mathlib.Core.Bool.{Bool, cond, not, _||_}
-use mathlib.Core.List.{List, []}
+use mathlib.Core.List.{List}
 use lib.Dec.{leb, ltb, eqb}
 use lib.ListN.{length, getD}
 use Rattle.sectors.specs.Refusal.{shortBuffer, noSuchEntry}
-use Rattle.text.specs.String.{stringAt}
+use Rattle.text.specs.String.{placedString}
 use Rattle.text.specs.Decode.{refusing, decodeOf, decodeInto}
 use Rattle.text.specs.declared.decode.DecodeAnswer.{DecodeAnswer}
 use Rattle.area.specs.Limits.{maxTracks, tableSize, tableBytes}
@@ -34,28 +34,28 @@ noSuchArea area = not (eqb (area .present) 1) || eqb (area .origin .slot) 0 || l
 unfoldable pub noSuchTrack : Area → ℕ → Bool
 noSuchTrack area number = eqb number 0 || ltb (min (area .«track_count») maxTracks) number
 
--- the string at a place of an area's table; place 0 is that of an absent text. "a text placed at or past its table's end is absent"
+-- the string at a place of an area's table. "a text placed at or past its table's end is absent"
 unfoldable pub textAt : List ℕ → Area → ℕ → List ℕ
-textAt lent area place = cond (eqb place 0) [] (stringAt (tableBytes (area .origin .«toc_sectors») lent) place)
+textAt lent area place = placedString (tableBytes (area .origin .«toc_sectors») lent) place
 
 -- where an item's text stands
 unfoldable pub placeOf : List TextPlace → ℕ → ℕ
 placeOf places item = getD places item (record { place = 0 }) .place
 
-unfoldable pub textOf : List ℕ → Area → List TextPlace → ℕ → Text
-textOf lent area places item = found (textAt lent area (placeOf places item)) (area .«text_charset»)
+unfoldable pub textOf : List ℕ → Area → ℕ → Text
+textOf lent area place = found (textAt lent area place) (area .«text_charset»)
 
 -- "decoding 2, 8, 9, 10": 2, then 8 with "item not in `ALL`"
 unfoldable pub areaTextIn : List ℕ → Area → ℕ → Text
 areaTextIn lent area item =
     cond (tableShort (length lent) area) (refused shortBuffer)
-    (cond (noSuchArea area || leb areaTexts item) (refused noSuchEntry) (textOf lent area (area .text) item))
+    (cond (noSuchArea area || leb areaTexts item) (refused noSuchEntry) (textOf lent area (placeOf (area .text) item)))
 
--- a text of a track that stands in a list of so many records
-unfoldable pub trackTextIn : List ℕ → Area → ℕ → Track → ℕ → ℕ → Text
-trackTextIn lent area records track number item =
+-- the text at a place, of a track that stands in a list of so many records
+unfoldable pub trackTextIn : List ℕ → Area → ℕ → ℕ → ℕ → ℕ → Text
+trackTextIn lent area records place number item =
     cond (tableShort (length lent) area || ltb records maxTracks) (refused shortBuffer)
-    (cond (noSuchArea area || noSuchTrack area number || leb trackTexts item) (refused noSuchEntry) (textOf lent area (track .text) item))
+    (cond (noSuchArea area || noSuchTrack area number || leb trackTexts item) (refused noSuchEntry) (textOf lent area place))
 
 -- the place in a list of the track of a number (there is no track 0)
 unfoldable pub trackIndex : ℕ → ℕ
@@ -63,7 +63,8 @@ trackIndex number = number - 1
 
 -- a text of the track of a number
 unfoldable pub trackTextBy : List ℕ → Area → List Track → ℕ → ℕ → Text
-trackTextBy lent area tracks number item = trackTextIn lent area (length tracks) (getD tracks (trackIndex number) noTrack) number item
+trackTextBy lent area tracks number item =
+    trackTextIn lent area (length tracks) (placeOf (getD tracks (trackIndex number) noTrack .text) item) number item
 
 -- "Every refusal .. changes no lent memory." Then "9, 10" are the layer of texts'.
 unfoldable pub textAnswer : Text → ℕ → DecodeAnswer

@@ -1,6 +1,7 @@
 // The texts of an area and of its tracks, decoded from a lone table. Nothing that is handed in is trusted.
 ghost use mathlib.Core.Path.{_≡_};
 ghost use lib.ListN.{length};
+ghost use Rattle.text.specs.Decode.{decodeOf, decodeInto};
 ghost use Rattle.area.specs.TextDecode.{tableShort, noSuchArea, noSuchTrack, textAt, areaTextIn, trackIndex, trackTextIn, trackTextBy, textAnswer, textPage};
 use crate::area::Area;
 use crate::bytes::lesser;
@@ -10,12 +11,11 @@ use crate::table::table_size;
 use crate::text_places::AREA_TEXTS;
 use crate::text_places::TRACK_TEXTS;
 use crate::track::Track;
-use crate::tracks::track_at;
+use crate::tracks::place_at;
 use sectors::refusal::NO_SUCH_ENTRY;
 use sectors::refusal::SHORT_BUFFER;
 use text::decode::DecodeAnswer;
-use text::decode::decode;
-use text::string::string_bytes;
+use text::stored::decode_placed;
 
 // Whether fewer bytes are lent than the table of an area's record has.
 fn table_short(bytes: usize, area: Area) -> bool
@@ -33,16 +33,14 @@ fn no_such_area(area: Area) -> bool
     (area.present != 1) | (origin.slot == 0) | (2 < origin.slot)
 }
 
-// The string at a place of an area's table; empty for place 0.
-fn text_at<'a>(lent: &'a [u8], area: Area, place: u32) -> &'a [u8]
-    ensures { λ r. ⌜ now r ≡ textAt (now (lent .entry)) area place ⌝ }
+// Decodes the text at a place of an area's table, 0 for an absent one.
+fn decode_at(lent: &[u8], area: Area, place: u32, page: &mut [u8]) -> DecodeAnswer
+    ensures answer { λ r. ⌜ r ≡ decodeOf (textAt (now (lent .entry)) area place) (area .«text_charset») (length (now (page .entry))) ⌝ }
+    ensures filled { λ r. ⌜ now (page .exit) ≡ decodeInto (textAt (now (lent .entry)) area place) (area .«text_charset») (now (page .entry)) ⌝ }
 {
     let origin = area.origin;
     let table = table_bytes(lent, origin.toc_sectors);
-    if place == 0 {
-        return &table[..0];
-    }
-    string_bytes(table, place as usize)
+    decode_placed(table, place, area.text_charset, page)
 }
 
 // Decodes a text of an area, by its item index, to the start of a page.
@@ -64,7 +62,7 @@ pub fn decode_area_text(table: &[u8], area: Area, item: u32, page: &mut [u8]) ->
     }
     let places = area.text;
     let text = places[item as usize];
-    decode(text_at(table, area, text.place), area.text_charset, page)
+    decode_at(table, area, text.place, page)
 }
 
 // The place in a list of the track of a number; for 0 the first.
@@ -84,18 +82,18 @@ fn no_such_track(area: Area, number: u32) -> bool
     (number == 0) | (lesser(area.track_count as usize, MAX_TRACKS) < number as usize)
 }
 
-// Decodes a text of a track that stands in a list of so many.
+// Decodes the text that a track of a list of so many has at a place, by the track's number and the item index.
 pub fn decode_of_track(
     table: &[u8],
     area: Area,
     room: usize,
-    track: Track,
+    place: u32,
     number: u32,
     item: u32,
     page: &mut [u8],
 ) -> DecodeAnswer
-    ensures answer { λ r. ⌜ r ≡ textAnswer (trackTextIn (now (table .entry)) area room track number item) (length (now (page .entry))) ⌝ }
-    ensures filled { λ r. ⌜ now (page .exit) ≡ textPage (trackTextIn (now (table .entry)) area room track number item) (now (page .entry)) ⌝ }
+    ensures answer { λ r. ⌜ r ≡ textAnswer (trackTextIn (now (table .entry)) area room place number item) (length (now (page .entry))) ⌝ }
+    ensures filled { λ r. ⌜ now (page .exit) ≡ textPage (trackTextIn (now (table .entry)) area room place number item) (now (page .entry)) ⌝ }
 {
     if table_short(table.len(), area) | (room < MAX_TRACKS) {
         return DecodeAnswer {
@@ -109,9 +107,7 @@ pub fn decode_of_track(
             len: 0,
         };
     }
-    let places = track.text;
-    let text = places[item as usize];
-    decode(text_at(table, area, text.place), area.text_charset, page)
+    decode_at(table, area, place, page)
 }
 
 // Decodes a text of a track, by its number and item index, to the start of a page.
@@ -125,6 +121,6 @@ pub fn decode_track_text(
 ) -> DecodeAnswer
     ensures { λ r. ⌜ (r ≡ textAnswer (trackTextBy (now (table .entry)) area (now (tracks .entry)) number item) (length (now (page .entry)))) × (now (page .exit) ≡ textPage (trackTextBy (now (table .entry)) area (now (tracks .entry)) number item) (now (page .entry))) ⌝ }
 {
-    let track = track_at(tracks, track_index(number));
-    decode_of_track(table, area, tracks.len(), track, number, item, page)
+    let place = place_at(tracks, track_index(number), item);
+    decode_of_track(table, area, tracks.len(), place, number, item, page)
 }

@@ -4,6 +4,7 @@ ghost use mathlib.Core.Bool.{cond};
 ghost use Prim.Native.Nat.{_≤_, _<_};
 ghost use lib.ListN.{length};
 ghost use Rattle.area.specs.Limits.{maxTableBytes, maxTracks};
+ghost use Rattle.area.specs.TextDecode.{placeOf};
 ghost use Rattle.area.specs.Track.{storedTimes, cappedTimes, timesOf, isOutside, genreAt, isrcGenreAt, trackOf, noFixedText, noTrack, noRead};
 use crate::area::Area;
 use crate::bytes::byte_from;
@@ -227,6 +228,18 @@ pub(crate) fn track_of(table: &[u8], area: Area, chain: Chain, i: usize) -> Trac
         outside_area: is_outside(start_lsn, start, end),
         text_warning: text.warning,
     }
+}
+
+// Where a track's text of an item index stands; 0 for an index past the last.
+pub(crate) fn text_place(track: Track, item: u32) -> u32
+    ensures { λ r. ⌜ r ≡ placeOf (track .text) item ⌝ }
+{
+    if TRACK_TEXTS <= item as usize {
+        return 0;
+    }
+    let places = track.text;
+    let text = places[item as usize];
+    text.place
 }
 
 // The zero record, which stands past the end of a list of tracks.

@@ -3,7 +3,7 @@ ghost use mathlib.Core.Path.{_≡_};
 ghost use Prim.Native.Nat.{_≤_, _<_};
 ghost use lib.ListN.{length};
 ghost use Rattle.area.specs.Limits.{maxTableBytes, maxTracks};
-ghost use Rattle.area.specs.TrackText.{itemIndex, keep, itemsKept, noText, trackTextOf};
+ghost use Rattle.area.specs.TrackText.{itemIndex, itemsKept, noText, trackTextOf};
 use crate::text_places::TRACK_TEXTS;
 use crate::text_places::TextPlace;
 use crate::warning::TRACK_TEXT_OFFSET_INVALID;
@@ -37,33 +37,13 @@ fn item_index(kind: u8) -> usize
     }
 }
 
-// An item kept over those before it: an empty one changes nothing.
-fn kept(kind: u8, place: u32, len: usize, before: ItemsKept) -> ItemsKept
-    ensures { λ r. ⌜ r ≡ keep (record { kind = kind; place = place; len = len }) before ⌝ }
-{
-    if len == 0 {
-        return before;
-    }
-    let mut after = before;
-    let index = item_index(kind);
-    if index < TRACK_TEXTS {
-        let here = TextPlace { place };
-        after.places[index] = here;
-        return after;
-    }
-    after.unknown = true;
-    after
-}
-
 // The walk over the items from a place on: the last nonempty item of each type, and whether one was of unknown type.
 fn items_kept(table: &[u8], place: usize, count: u8) -> ItemsKept
     requires { ⌜ length (now table) ≤ maxTableBytes ⌝ }
     ensures { λ r. ⌜ r ≡ itemsKept (now (table .entry)) place count ⌝ }
 {
-    let mut kept_items = ItemsKept {
-        places: [TextPlace { place: 0 }; TRACK_TEXTS],
-        unknown: false,
-    };
+    let mut places = [TextPlace { place: 0 }; TRACK_TEXTS];
+    let mut unknown = false;
     let mut q = place;
     let mut left = count;
     'items: while 0 < left {
@@ -74,7 +54,14 @@ fn items_kept(table: &[u8], place: usize, count: u8) -> ItemsKept
             break;
         }
         let len = string_bytes(table, q + 2).len();
-        kept_items = kept(table[q], (q + 2) as u32, len, kept_items);
+        let index = item_index(table[q]);
+        if (0 < len) & (index < TRACK_TEXTS) {
+            places[index] = TextPlace {
+                place: (q + 2) as u32,
+            };
+        } else if 0 < len {
+            unknown = true;
+        }
         q = q + 2 + len;
         left -= 1;
         if left == 0 {
@@ -90,7 +77,7 @@ fn items_kept(table: &[u8], place: usize, count: u8) -> ItemsKept
             q += 1;
         }
     }
-    kept_items
+    ItemsKept { places, unknown }
 }
 
 // No text, and a warning or 0.

@@ -5,6 +5,7 @@ ghost use lib.ListN.{set, getD};
 ghost use lib.Seq.{sets};
 ghost use Rattle.area.specs.Lent.{counted};
 ghost use Rattle.area.specs.Table.{tracksIn, warningsIn};
+ghost use Rattle.area.specs.TextDecode.{placeOf};
 ghost use Rattle.area.specs.Track.{noTrack};
 ghost use Rattle.area.specs.Warning.{wordOf};
 use crate::table::TableHead;
@@ -12,6 +13,7 @@ use crate::table::next_track;
 use crate::table::track_count;
 use crate::track::Track;
 use crate::track::no_track;
+use crate::track::text_place;
 
 // Stores a track in a list, if its place is there.
 fn put_track(tracks: &mut [Track], at: usize, track: Track)
@@ -30,6 +32,16 @@ pub fn track_at(tracks: &[Track], at: usize) -> Track
         return tracks[at];
     }
     no_track()
+}
+
+// Where the text of an item index of the track at a place of a list stands; 0 past the list's end.
+pub fn place_at(tracks: &[Track], at: usize, item: u32) -> u32
+    ensures { λ r. ⌜ r ≡ placeOf (getD (now (tracks .entry)) at noTrack .text) item ⌝ }
+{
+    if at < tracks.len() {
+        return text_place(tracks[at], item);
+    }
+    0
 }
 
 // Fills a list with the tracks of a table from a place on, and words with their warnings from a count on: the count of words then.

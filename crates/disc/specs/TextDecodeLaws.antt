@@ -11,19 +11,18 @@ use Rattle.sectors.specs.Fill.{part}
 use Rattle.sectors.specs.FillLaws.{part-size, part-length}
 use Rattle.sectors.specs.Format.{sectorSize}
 use Rattle.sectors.specs.Refusal.{shortBuffer, noSuchEntry}
-use Rattle.text.specs.StringLaws.{string-past}
+use Rattle.text.specs.StringLaws.{placed-past}
 use Rattle.text.specs.declared.decode.DecodeAnswer.{DecodeAnswer}
 use Rattle.area.specs.Area.{areaTexts}
 use Rattle.area.specs.Limits.{maxTableBytes, maxTracks}
-use Rattle.area.specs.TestLaws.{or-left, cond-same}
-use Rattle.area.specs.TextDecode.{Text, refused, found, tableShort, noSuchArea, noSuchTrack, textOf, areaTextIn, trackTextIn, textAnswer, textPage}
+use Rattle.area.specs.TestLaws.{or-left}
+use Rattle.area.specs.TextDecode.{Text, refused, found, tableShort, noSuchArea, noSuchTrack, placeOf, textOf, areaTextIn, trackTextIn, textAnswer, textPage}
 use Rattle.area.specs.TextDecodeLaws.{large-not-short, area-text-none, area-text-found, track-text-none, track-text-found}
 use Rattle.area.specs.TrackText.{trackTexts}
 use Rattle.area.specs.declared.area.Area.{Area}
-use Rattle.area.specs.declared.track.Track.{Track}
 use Rattle.disc.specs.Slot.{twoChannel, multichannel, regionAt, masterRegion, workBytes, trackRecords, regionOf}
 use Rattle.disc.specs.Master.{masterBytes, textSector, discTexts}
-use Rattle.disc.specs.TextDecode.{workShort, lentShort, discTextAt, discPlace, discTextIn, areaTextOn, trackTextOn}
+use Rattle.disc.specs.TextDecode.{workShort, lentShort, discTextSector, discTextAt, discPlace, discTextIn, areaTextOn, trackTextOn}
 use Rattle.disc.specs.declared.master.MasterToc.{MasterToc}
 
 -- what a contract says of a text's answer and page holds of an equal text
@@ -33,10 +32,9 @@ asked-same text same old answer page e a p = (a ∙ ap (λ (t : Text). textAnswe
 
 -- ---- a text of the disc placed at or past the end of sector 1 is absent
 pub disc-past-absent : (work : List ℕ) (place : ℕ) → sectorSize ≤ place → discTextAt work place ≡ []
-unfolding discTextAt textSector
+unfolding discTextAt discTextSector textSector
 disc-past-absent work place h =
-    rw (string-past (part sectorSize sectorSize (part masterRegion masterBytes work)) place (omega (arith, part-size sectorSize sectorSize (part masterRegion masterBytes work))))
-    (cond-same (eqb place 0) [])
+    placed-past (discTextSector work) place (omega (arith, part-size sectorSize sectorSize (part masterRegion masterBytes work)))
 
 -- ---- a disc's text is refused 2 exactly if too few work bytes are lent; else 8 exactly if there is no such item
 module _ (work : List ℕ) (master : MasterToc) (item : ℕ) where
@@ -83,18 +81,18 @@ module _ (work : List ℕ) (area : Area) (item : ℕ) where
         area-on-region ∙ area-text-none (regionOf (area .origin .slot) work) area item (region-enough work (area .origin .slot) area enough) none
 
     pub area-on-found : (noSuchArea area || leb areaTexts item) ≡ false
-        → areaTextOn work area item ≡ textOf (regionOf (area .origin .slot) work) area (area .text) item
+        → areaTextOn work area item ≡ textOf (regionOf (area .origin .slot) work) area (placeOf (area .text) item)
     area-on-found there =
         area-on-region ∙ area-text-found (regionOf (area .origin .slot) work) area item (region-enough work (area .origin .slot) area enough) there
 
 -- ---- a track's likewise, with the track records; else 8 exactly if there is no such area, track or item
-module _ (work : List ℕ) (area : Area) (records : ℕ) (track : Track) (number item : ℕ) where
-  pub track-on-short : lentShort (length work) records ≡ true → trackTextOn work area records track number item ≡ refused shortBuffer
+module _ (work : List ℕ) (area : Area) (records place number item : ℕ) where
+  pub track-on-short : lentShort (length work) records ≡ true → trackTextOn work area records place number item ≡ refused shortBuffer
   unfolding trackTextOn
   track-on-short short = simp short
 
   module _ (enough : lentShort (length work) records ≡ false) where
-    pub track-on-region : trackTextOn work area records track number item ≡ trackTextIn (regionOf (area .origin .slot) work) area maxTracks track number item
+    pub track-on-region : trackTextOn work area records place number item ≡ trackTextIn (regionOf (area .origin .slot) work) area maxTracks place number item
     unfolding trackTextOn
     track-on-region = simp enough
 
@@ -103,9 +101,9 @@ module _ (work : List ℕ) (area : Area) (records : ℕ) (track : Track) (number
     slot-enough = rw (region-enough work (area .origin .slot) area (or-left (workShort (length work)) (ltb records trackRecords) enough)) refl
 
     pub track-on-none : (noSuchArea area || noSuchTrack area number || leb trackTexts item) ≡ true
-        → trackTextOn work area records track number item ≡ refused noSuchEntry
-    track-on-none none = track-on-region ∙ track-text-none (regionOf (area .origin .slot) work) area maxTracks track number item slot-enough none
+        → trackTextOn work area records place number item ≡ refused noSuchEntry
+    track-on-none none = track-on-region ∙ track-text-none (regionOf (area .origin .slot) work) area maxTracks place number item slot-enough none
 
     pub track-on-found : (noSuchArea area || noSuchTrack area number || leb trackTexts item) ≡ false
-        → trackTextOn work area records track number item ≡ textOf (regionOf (area .origin .slot) work) area (track .text) item
-    track-on-found there = track-on-region ∙ track-text-found (regionOf (area .origin .slot) work) area maxTracks track number item slot-enough there
+        → trackTextOn work area records place number item ≡ textOf (regionOf (area .origin .slot) work) area place
+    track-on-found there = track-on-region ∙ track-text-found (regionOf (area .origin .slot) work) area maxTracks place number item slot-enough there

@@ -2,7 +2,7 @@
 ghost use mathlib.Core.Path.{_≡_};
 ghost use lib.ListN.{length};
 ghost use Rattle.area.specs.TextDecode.{textAnswer, textPage};
-ghost use Rattle.disc.specs.TextDecode.{discTextAt, discTextIn, areaTextOn, trackPlace, trackTextOn, trackTextAt};
+ghost use Rattle.disc.specs.TextDecode.{discTextSector, discTextIn, areaTextOn, trackPlace, trackTextOn, trackTextAt};
 use crate::master::DISC_TEXTS;
 use crate::master::MasterToc;
 use crate::regions::TRACK_RECORDS;
@@ -16,23 +16,18 @@ use area::decode::decode_area_text;
 use area::decode::decode_of_track;
 use area::table::MAX_TRACKS;
 use area::track::Track;
-use area::tracks::track_at;
+use area::tracks::place_at;
 use sectors::refusal::NO_SUCH_ENTRY;
 use sectors::refusal::SHORT_BUFFER;
 use sectors::sector::SECTOR_SIZE;
 use text::decode::DecodeAnswer;
-use text::decode::decode;
-use text::string::string_bytes;
+use text::stored::decode_placed;
 
-// The string at a place of sector 1 of the master table; empty for place 0.
-fn disc_text_at<'a>(work: &'a [u8], place: u32) -> &'a [u8]
-    ensures { λ r. ⌜ now r ≡ discTextAt (now (work .entry)) place ⌝ }
+// Sector 1 of the master table, where the disc's texts stand.
+fn disc_text_sector<'a>(work: &'a [u8]) -> &'a [u8]
+    ensures { λ r. ⌜ now r ≡ discTextSector (now (work .entry)) ⌝ }
 {
-    let sector = part_of(master_region(work), SECTOR_SIZE, SECTOR_SIZE);
-    if place == 0 {
-        return &sector[..0];
-    }
-    string_bytes(sector, place as usize)
+    part_of(master_region(work), SECTOR_SIZE, SECTOR_SIZE)
 }
 
 // Decodes a text of the disc, by its item index, to the start of a page.
@@ -54,7 +49,8 @@ pub fn decode_disc_text(work: &[u8], master: MasterToc, item: u32, page: &mut [u
     }
     let places = master.text;
     let text = places[item as usize];
-    decode(disc_text_at(work, text.place), master.text_charset, page)
+    let sector = disc_text_sector(work);
+    decode_placed(sector, text.place, master.text_charset, page)
 }
 
 // Decodes a text of an area, by its item index, to the start of a page.
@@ -84,18 +80,18 @@ fn track_place(area: Area, number: u32) -> usize
     first + (number - 1) as usize
 }
 
-// Decodes a text of a track that stands in a list of so many.
+// Decodes the text that a track of a list of so many has at a place, by the track's number and the item index.
 fn decode_of_disc_track(
     work: &[u8],
     area: Area,
     room: usize,
-    track: Track,
+    place: u32,
     number: u32,
     item: u32,
     page: &mut [u8],
 ) -> DecodeAnswer
-    ensures answer { λ r. ⌜ r ≡ textAnswer (trackTextOn (now (work .entry)) area room track number item) (length (now (page .entry))) ⌝ }
-    ensures filled { λ r. ⌜ now (page .exit) ≡ textPage (trackTextOn (now (work .entry)) area room track number item) (now (page .entry)) ⌝ }
+    ensures answer { λ r. ⌜ r ≡ textAnswer (trackTextOn (now (work .entry)) area room place number item) (length (now (page .entry))) ⌝ }
+    ensures filled { λ r. ⌜ now (page .exit) ≡ textPage (trackTextOn (now (work .entry)) area room place number item) (now (page .entry)) ⌝ }
 {
     if (work.len() < WORK_BYTES) | (room < TRACK_RECORDS) {
         return DecodeAnswer {
@@ -105,7 +101,7 @@ fn decode_of_disc_track(
     }
     let origin = area.origin;
     let table = region_of(work, origin.slot);
-    decode_of_track(table, area, MAX_TRACKS, track, number, item, page)
+    decode_of_track(table, area, MAX_TRACKS, place, number, item, page)
 }
 
 // Decodes a text of a track, by its number and item index, to the start of a page.
@@ -119,6 +115,6 @@ pub fn decode_disc_track_text(
 ) -> DecodeAnswer
     ensures { λ r. ⌜ (r ≡ textAnswer (trackTextAt (now (work .entry)) area (now (tracks .entry)) number item) (length (now (page .entry)))) × (now (page .exit) ≡ textPage (trackTextAt (now (work .entry)) area (now (tracks .entry)) number item) (now (page .entry))) ⌝ }
 {
-    let track = track_at(tracks, track_place(area, number));
-    decode_of_disc_track(work, area, tracks.len(), track, number, item, page)
+    let place = place_at(tracks, track_place(area, number), item);
+    decode_of_disc_track(work, area, tracks.len(), place, number, item, page)
 }

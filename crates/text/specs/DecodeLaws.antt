@@ -30,6 +30,11 @@ giving-is n = refl
 refusals : {a b : DecodeAnswer} → a ≡ b → a .refusal ≡ b .refusal
 refusals e = ap (λ (a : DecodeAnswer). a .refusal) e
 
+-- equal bytes are decoded alike
+pub decode-same : {s t : List ℕ} → s ≡ t → (code : ℕ) (page : List ℕ) {answer : DecodeAnswer} {last : List ℕ}
+    → (answer ≡ decodeOf s code (length page)) × (last ≡ decodeInto s code page) → (answer ≡ decodeOf t code (length page)) × (last ≡ decodeInto t code page)
+decode-same e code page d = (d .0 ∙ ap (λ (b : List ℕ). decodeOf b code (length page)) e, d .1 ∙ ap (λ (b : List ℕ). decodeInto b code page) e)
+
 -- code points whose text is too long for a page, and such as fit
 module _ (points : List ℕ) where
   pub answer-short : (size : ℕ) → size < length (encoded points) → answerIn size (gives points) ≡ refusing shortPage

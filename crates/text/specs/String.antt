@@ -1,7 +1,7 @@
 -- Stored strings (01, "Text"). Assumes nothing.
 use Prim.Native.Nat.{ℕ, min}
-use mathlib.Core.Bool.{Bool, not}
-use mathlib.Core.List.{List}
+use mathlib.Core.Bool.{Bool, cond, not}
+use mathlib.Core.List.{List, []}
 use lib.Dec.{eqb, ltb}
 use lib.ListN.{length}
 use Rattle.sectors.specs.Fill.{part}
@@ -31,3 +31,7 @@ stringStart table place = min place (length table)
 -- "Present means at least one byte."
 unfoldable pub present : List ℕ → Bool
 present bytes = ltb 0 (length bytes)
+
+-- "Absent fields .. are zero": the string that a record places in a table, none for place 0
+unfoldable pub placedString : List ℕ → ℕ → List ℕ
+placedString table place = cond (eqb place 0) [] (stringAt table place)

@@ -13,7 +13,7 @@ use Rattle.sectors.specs.Fill.{part}
 use Rattle.sectors.specs.FillLaws.{part-past, part-size, part-at, take-part}
 use Rattle.text.specs.While.{takeWhile}
 use Rattle.text.specs.WhileLaws.{front-taken, while-front, while-length, while-passes, while-stops}
-use Rattle.text.specs.String.{nonzero, untilZero, maxStringBytes, stringAt, present}
+use Rattle.text.specs.String.{nonzero, untilZero, maxStringBytes, stringAt, present, placedString}
 
 module _ (b : ℕ) where
   -- a byte that passes the test is not zero
@@ -140,3 +140,21 @@ module _ (table : List ℕ) (place : ℕ) where
   string-present =
       until-present (part place maxStringBytes table)
       ∙ ap nonzero (part-at place maxStringBytes table 0 0 (omega arith) ∙ ap (λ (p : ℕ). getD table p 0) (add-zero place))
+
+  -- a record places no string at 0
+  pub placed-none : place ≡ 0 → placedString table place ≡ []
+  unfolding placedString
+  placed-none z = simp (eq-eqb place 0 z)
+
+  -- and the string at any other place
+  pub placed-there : (place ≡ 0 → ⊥) → placedString table place ≡ stringAt table place
+  unfolding placedString
+  placed-there n = simp (ne-eqb place 0 n)
+
+  -- at or past the table's end there is none
+  pub placed-past : length table ≤ place → placedString table place ≡ []
+  placed-past h = go (eqb place 0) refl
+    where
+      go : (t : Bool) → eqb place 0 ≡ t → placedString table place ≡ []
+      go true e = placed-none (eqb-true place 0 e)
+      go false e = placed-there (eqb-false place 0 e) ∙ string-past h

@@ -1,5 +1,6 @@
 // A string's bytes decoded to UTF-8, into a lent page.
 ghost use mathlib.Core.Path.{_≡_};
+ghost use mathlib.Core.Bool.{true};
 ghost use mathlib.Core.List.{map};
 ghost use Prim.Native.Nat.{_≤_};
 ghost use lib.ListN.{length};
@@ -34,11 +35,13 @@ fn is_ascii(bytes: &[u8]) -> bool
     ascii
 }
 
-// How many bytes the UTF-8 of a Latin-1 string has: one for a byte below hexadecimal 80, two for another.
-fn latin1_length(bytes: &[u8]) -> usize
+// How many bytes the UTF-8 of a Latin-1 string has: one for a byte below hexadecimal 80, two for another. Of one that is known
+// to be ASCII no byte is looked at.
+fn latin1_length(bytes: &[u8], ascii: bool) -> usize
+    requires { ⌜ (ascii ≡ true → isAscii (now bytes) ≡ true) ⌝ }
     ensures { λ r. ⌜ r ≡ length (encoded (now (bytes .entry))) ⌝ }
 {
-    if is_ascii(bytes) {
+    if ascii {
         return bytes.len();
     }
     let mut n = bytes.len();
@@ -76,11 +79,12 @@ fn put_latin1(bytes: &[u8], page: &mut [u8])
 }
 
 // Decodes Latin-1, in which each byte is its own code point.
-fn decode_latin1(bytes: &[u8], page: &mut [u8]) -> DecodeAnswer
+fn decode_latin1(bytes: &[u8], ascii: bool, page: &mut [u8]) -> DecodeAnswer
+    requires { ⌜ (ascii ≡ true → isAscii (now bytes) ≡ true) ⌝ }
     ensures answer { λ r. ⌜ r ≡ answerIn (length (now (page .entry))) (gives (now (bytes .entry))) ⌝ }
     ensures filled { λ r. ⌜ now (page .exit) ≡ pageWith (gives (now (bytes .entry))) (now (page .entry)) ⌝ }
 {
-    let len = latin1_length(bytes);
+    let len = latin1_length(bytes, ascii);
     if page.len() < len {
         return DecodeAnswer {
             refusal: SHORT_PAGE,
@@ -95,9 +99,9 @@ fn decode_latin1(bytes: &[u8], page: &mut [u8]) -> DecodeAnswer
     DecodeAnswer { refusal: 0, len }
 }
 
-// Decodes a string's bytes, of the set that a code names, to the start of a page. A refusal changes nothing. (The Rust's
-// `decode_string`; its own `decode` leaves controls as they are.)
-pub fn decode(bytes: &[u8], code: u8, page: &mut [u8]) -> DecodeAnswer
+// Decodes a string's bytes, of the set that a code names, to the start of a page; the caller may know that they are ASCII.
+pub(crate) fn decode_known(bytes: &[u8], ascii: bool, code: u8, page: &mut [u8]) -> DecodeAnswer
+    requires { ⌜ (ascii ≡ true → isAscii (now bytes) ≡ true) ⌝ }
     ensures answer { λ r. ⌜ r ≡ decodeOf (now (bytes .entry)) code (length (now (page .entry))) ⌝ }
     ensures filled { λ r. ⌜ now (page .exit) ≡ decodeInto (now (bytes .entry)) code (now (page .entry)) ⌝ }
 {
@@ -110,5 +114,14 @@ pub fn decode(bytes: &[u8], code: u8, page: &mut [u8]) -> DecodeAnswer
             len: 0,
         };
     }
-    decode_latin1(bytes, page)
+    decode_latin1(bytes, ascii, page)
+}
+
+// Decodes a string's bytes, of the set that a code names, to the start of a page. A refusal changes nothing. (The Rust's
+// `decode_string`; its own `decode` leaves controls as they are.)
+pub fn decode(bytes: &[u8], code: u8, page: &mut [u8]) -> DecodeAnswer
+    ensures answer { λ r. ⌜ r ≡ decodeOf (now (bytes .entry)) code (length (now (page .entry))) ⌝ }
+    ensures filled { λ r. ⌜ now (page .exit) ≡ decodeInto (now (bytes .entry)) code (now (page .entry)) ⌝ }
+{
+    decode_known(bytes, is_ascii(bytes), code, page)
 }

@@ -4,6 +4,7 @@ pub mod decode;
 pub mod fixed;
 pub mod language;
 pub mod refusal;
+pub mod stored;
 pub mod string;
 mod utf8;
 mod white;

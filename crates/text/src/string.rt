@@ -3,8 +3,8 @@ ghost use mathlib.Core.Path.{_≡_};
 ghost use Prim.Native.Nat.{min};
 ghost use denote.Ref.{ptr};
 ghost use lib.ListN.{length};
-ghost use Rattle.sectors.specs.Fill.{startAt};
-ghost use Rattle.text.specs.String.{untilZero, stringAt, stringStart};
+ghost use Rattle.sectors.specs.Fill.{part, startAt};
+ghost use Rattle.text.specs.String.{untilZero, maxStringBytes, stringAt, stringStart};
 
 // Bytes that a string has at most.
 pub const MAX_STRING_BYTES: usize = 4096;
@@ -30,14 +30,22 @@ pub(crate) fn lesser(a: usize, b: usize) -> usize
     if a < b { a } else { b }
 }
 
+// The bytes that the string at a place can have, as a part of the table.
+pub(crate) fn string_window<'a>(table: &'a [u8], place: usize) -> &'a [u8]
+    ensures bytes { λ r. ⌜ now r ≡ part place maxStringBytes (now (table .entry)) ⌝ }
+    ensures placed { λ r. ⌜ ptr r ≡ startAt (ptr (table .entry)) (stringStart (now (table .entry)) place) ⌝ }
+{
+    let start = lesser(place, table.len());
+    let size = lesser(MAX_STRING_BYTES, table.len() - start);
+    &table[start..start + size]
+}
+
 // The string at a place, as a part of the table; empty at its end, and for a place past it.
 pub fn string_bytes<'a>(table: &'a [u8], place: usize) -> &'a [u8]
     ensures bytes { λ r. ⌜ now r ≡ stringAt (now (table .entry)) place ⌝ }
     ensures placed { λ r. ⌜ ptr r ≡ startAt (ptr (table .entry)) (stringStart (now (table .entry)) place) ⌝ }
 {
-    let start = lesser(place, table.len());
-    let size = lesser(MAX_STRING_BYTES, table.len() - start);
-    let window = &table[start..start + size];
+    let window = string_window(table, place);
     let n = zero_in(window);
     &window[..n]
 }

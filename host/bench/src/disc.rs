@@ -159,23 +159,23 @@ fn read(disc: &mut Disc) -> DiscAnswer {
 fn read_and_decode(disc: &mut Disc, mut decoded: impl FnMut(DecodeAnswer)) {
     let answer = read(disc);
     let Disc { work, tracks, page, .. } = disc;
-    let work = black_box(&**work);
+    let (work, page) = (black_box(&**work), black_box(&mut page[..]));
     for (item, text) in (0..).zip(answer.master.text) {
         if text.place > 0 {
-            decoded(decode_disc_text(work, &answer.master, item, black_box(page)));
+            decoded(decode_disc_text(work, &answer.master, item, page));
         }
     }
     for (area, first) in answer.areas().iter().zip(FIRST_TRACKS) {
         for (item, text) in (0..).zip(area.text) {
             if text.place > 0 {
-                decoded(decode_area_text(work, area, item, black_box(page)));
+                decoded(decode_area_text(work, area, item, page));
             }
         }
         for track in &tracks[first..first + usize::from(area.track_count)] {
             let number = track.number.into();
             for (item, text) in (0..).zip(track.text) {
                 if text.place > 0 {
-                    decoded(decode_track_text(work, area, tracks, number, item, black_box(page)));
+                    decoded(decode_track_text(work, area, tracks, number, item, page));
                 }
             }
         }

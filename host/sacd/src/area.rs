@@ -177,6 +177,7 @@ pub struct Capped {
 /// `tracks`, its warnings at the start of `words`. Refused, in this order: 7 for a table of 0
 /// bytes, over 262,144 or no multiple of 2,048; 2 for fewer than 255 tracks or 766 words; 6 when
 /// it yields no area. Only 6 changes anything: it has its warning.
+#[inline]
 pub fn read_table(table: &[u8], tracks: &mut [Track], words: &mut [u32]) -> TableAnswer {
     // SAFETY: pointers and lengths are those of slices; the two that are written overlap nothing.
     unsafe {
@@ -195,6 +196,7 @@ pub fn read_table(table: &[u8], tracks: &mut [Track], words: &mut [u32]) -> Tabl
 /// Nothing in the record is trusted. Refused, in this order and with `page` left as it was: 2 for
 /// a table shorter than the record's sectors (above 128 as 128), 8 for no area or no such item, 9
 /// and 10 as by [`crate::decode`]. An absent text has length 0.
+#[inline]
 pub fn decode_area_text(table: &[u8], area: &Area, item: u32, page: &mut [u8]) -> DecodeAnswer {
     // SAFETY: pointers and lengths are those of slices; `page` overlaps nothing.
     unsafe {
@@ -211,6 +213,7 @@ pub fn decode_area_text(table: &[u8], area: &Area, item: u32, page: &mut [u8]) -
 
 /// The same for the text of a track, by its number from 1. Fewer than 255 tracks are refused by 2
 /// too; a track 0, or above the record's count (above 255 as 255), by 8.
+#[inline]
 pub fn decode_track_text(
     table: &[u8],
     area: &Area,
@@ -237,17 +240,20 @@ pub fn decode_track_text(
 
 /// Draws the item at `next` of a table, of so many that are `left`, empty and unknown ones
 /// included. Without one, `next` and `left` are as they were.
+#[inline]
 pub fn draw_at(table: &[u8], next: usize, left: usize) -> Drawn {
     // SAFETY: the pointer and length are those of a slice.
     unsafe { ffi::sacd_draw_at(table.as_ptr(), table.len(), next, left) }
 }
 
 /// The frame number of a timecode.
+#[inline]
 pub fn frame_number(time: Timecode) -> Frame {
     ffi::sacd_frame_number(time)
 }
 
 /// A track's start and duration: as they are if they end within the play time, else capped.
+#[inline]
 pub fn cap(start: Frame, duration: Frame, playtime: Frame) -> Capped {
     ffi::sacd_cap(start, duration, playtime)
 }

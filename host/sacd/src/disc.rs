@@ -131,6 +131,7 @@ pub fn read_disc(
 /// `page`. Nothing in the record is trusted. Refused, in this order and with `page` left as it was:
 /// 2 for fewer than 544,768 work bytes, 8 for no such item, 9 and 10 as by [`crate::decode`]. An
 /// absent text has length 0.
+#[inline]
 pub fn decode_disc_text(
     work: &[u8],
     master: &MasterToc,
@@ -152,6 +153,7 @@ pub fn decode_disc_text(
 
 /// The same for the text of an area, whose slot names its region; 8 also for no area or a slot
 /// other than 1 and 2.
+#[inline]
 pub fn decode_area_text(work: &[u8], area: &Area, item: u32, page: &mut [u8]) -> DecodeAnswer {
     // SAFETY: pointers and lengths are those of slices; `page` overlaps nothing.
     unsafe {
@@ -168,6 +170,7 @@ pub fn decode_area_text(work: &[u8], area: &Area, item: u32, page: &mut [u8]) ->
 
 /// The same for the text of a track, by its number from 1. Fewer than 510 tracks are refused by 2
 /// too; a track 0, or above the record's count (above 255 as 255), by 8.
+#[inline]
 pub fn decode_track_text(
     work: &[u8],
     area: &Area,

@@ -147,11 +147,13 @@ pub fn compare_sectors(
 }
 
 /// The low 64 bits of a product.
+#[inline]
 pub fn wrapping_mul(a: u64, b: u64) -> u64 {
     ffi::sacd_wrapping_mul(a, b)
 }
 
 /// FNV-1a, 64 bits, of the bytes.
+#[inline]
 pub fn digest(bytes: &[u8]) -> u64 {
     // SAFETY: the pointer and length are those of a slice.
     unsafe { ffi::sacd_digest(bytes.as_ptr(), bytes.len()) }
@@ -172,18 +174,21 @@ pub fn audit(format: impl Into<u32>, image: &[u8], lsn: u32) -> AuditAnswer {
 }
 
 /// The byte at `at`; 0 past the end.
+#[inline]
 pub fn byte_at(table: &[u8], at: usize) -> u8 {
     // SAFETY: the pointer and length are those of a slice.
     unsafe { ffi::sacd_byte_at(table.as_ptr(), table.len(), at) }
 }
 
 /// The big-endian number of two bytes at `at`; each byte past the end reads as 0.
+#[inline]
 pub fn be16_at(table: &[u8], at: usize) -> u16 {
     // SAFETY: the pointer and length are those of a slice.
     unsafe { ffi::sacd_be16_at(table.as_ptr(), table.len(), at) }
 }
 
 /// The big-endian number of four bytes at `at`; each byte past the end reads as 0.
+#[inline]
 pub fn be32_at(table: &[u8], at: usize) -> u32 {
     // SAFETY: the pointer and length are those of a slice.
     unsafe { ffi::sacd_be32_at(table.as_ptr(), table.len(), at) }

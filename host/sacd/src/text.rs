@@ -50,18 +50,21 @@ fn front(bytes: &[u8], len: u8) -> &[u8] {
 
 /// How many bytes the string at `place` has: it ends before the first zero byte, after 4,096
 /// bytes or at the table's end. 0 at the table's end and past it.
+#[inline]
 pub fn string_length(table: &[u8], place: usize) -> usize {
     // SAFETY: the pointer and length are those of a slice.
     unsafe { ffi::sacd_string_length(table.as_ptr(), table.len(), place) }
 }
 
 /// The string at `place`, as a part of the table.
+#[inline]
 pub fn string_bytes(table: &[u8], place: usize) -> &[u8] {
     let rest = table.get(place..).unwrap_or_default();
     &rest[..string_length(table, place)]
 }
 
 /// The set that a code names: 3 to 6, or 0 for Latin-1.
+#[inline]
 pub fn charset(code: u8) -> u8 {
     ffi::sacd_charset(code)
 }
@@ -69,6 +72,7 @@ pub fn charset(code: u8) -> u8 {
 /// Decodes a string's bytes, of the set that `code` names, to UTF-8 at the start of `page`;
 /// bytes below 32 become a blank. No bytes give length 0 in every set. Refused, in this order
 /// and with `page` left as it was: 9 for set 3 to 6, 10 when the text is longer than `page`.
+#[inline]
 pub fn decode(bytes: &[u8], code: u8, page: &mut [u8]) -> DecodeAnswer {
     // SAFETY: both pointers and lengths are those of slices; `page` overlaps nothing.
     unsafe { ffi::sacd_decode(bytes.as_ptr(), bytes.len(), code, page.as_mut_ptr(), page.len()) }
@@ -76,18 +80,21 @@ pub fn decode(bytes: &[u8], code: u8, page: &mut [u8]) -> DecodeAnswer {
 
 /// The bytes of a field up to the first zero byte. Of a field longer than 16 bytes the first 16
 /// count.
+#[inline]
 pub fn fixed_bytes(field: &[u8]) -> FixedText {
     // SAFETY: the pointer and length are those of a slice.
     unsafe { ffi::sacd_fixed_bytes(field.as_ptr(), field.len()) }
 }
 
 /// The same, without the white space at both ends: hexadecimal 09-0D, 1C-20, 85, A0.
+#[inline]
 pub fn fixed_text(field: &[u8]) -> FixedText {
     // SAFETY: the pointer and length are those of a slice.
     unsafe { ffi::sacd_fixed_text(field.as_ptr(), field.len()) }
 }
 
 /// The language that two characters name: without the zeros and blanks at their end.
+#[inline]
 pub fn language(code: [u8; 2]) -> LanguageCode {
     let [first, second] = code;
     ffi::sacd_language(first, second)

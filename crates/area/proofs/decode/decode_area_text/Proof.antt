@@ -1,5 +1,5 @@
 -- `area::decode::decode_area_text` meets its contract: 2, then 8, then the string is decoded. Assumes nothing.
-use mathlib.Core.Path.{sym, ap, _∙_}
+use mathlib.Core.Path.{refl, sym, ap, _∙_}
 use mathlib.Core.Bool.{Bool, _||_}
 use denote.Ref.{now}
 use lib.Dec.{leb}
@@ -36,22 +36,19 @@ mul-text c = search needs
 array-copy-out-text : tie.Need-array-copy-out-text
 array-copy-out-text c = leb-false 4 _ (or-right (c .before .before .no-such-area .result) _ (c .before .if2 .left))
 
-text-at-requires : tie.Need-text-at-requires
-text-at-requires c κs = search needs
-
-decode-requires : tie.Need-decode-requires
-decode-requires c κs = search needs
+decode-at-requires : tie.Need-decode-at-requires
+decode-at-requires c κs = search needs
 
 same-length : tie.Need-same-length
 same-length c = search needs
 
 returns-3 : tie.Need-returns-3
 unfolding areaTextIn textOf placeOf
-returns-3 c = let k = c .before .before .before .before .before .before .before in
+returns-3 c = let k = c .before .before .before .before .before .before in
     let a = k .before .before .before .before .before .before .args in
     let short = sym (k .before .before .before .table-short .ensures) ∙ k .before .before .if1 .left in
     let none = sym (ap (λ (t : Bool). t || leb 4 (a .item)) (k .before .no-such-area .ensures)) ∙ k .if2 .left in
-    asked-found _ (now (a .page)) _ _ _ _ _ (simp (short, none)) (c .before .before .before .before .text-at .ensures) (c .before .before .decode .ensures .0) (c .before .before .decode .ensures .1)
+    asked-found _ (now (a .page)) _ _ _ _ _ (simp (short, none)) refl (c .before .before .decode-at .ensures .0) (c .before .before .decode-at .ensures .1)
 
 pub decode-area-text-spec : {M : Type 1} → statement M
 decode-area-text-spec =
@@ -63,7 +60,6 @@ decode-area-text-spec =
     returns-2
     mul-text
     array-copy-out-text
-    text-at-requires
-    decode-requires
+    decode-at-requires
     same-length
     returns-3)

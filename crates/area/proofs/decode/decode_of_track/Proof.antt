@@ -1,12 +1,10 @@
 -- `area::decode::decode_of_track` meets its contract: 2, then 8, then the string is decoded. Assumes nothing.
-use mathlib.Core.Path.{sym, _∙_}
+use mathlib.Core.Path.{refl, sym, _∙_}
 use mathlib.Core.Bool.{_||_}
 use denote.Ref.{now}
 use lib.Dec.{leb, ltb}
-use borrow.Author.Tests.{leb-false}
-use Rattle.area.specs.TestLaws.{or-right}
 use Rattle.area.specs.TextDecodeLaws.{asked-refused, asked-found}
-use Rattle.area.specs.TextDecode.{placeOf, textOf, trackTextIn}
+use Rattle.area.specs.TextDecode.{textOf, trackTextIn}
 use borrow.Author.Needs.{needs}
 use Rattle.area.proofs.decode.decode_of_track.Statement.{statement}
 use Rattle.area.proofs.decode.decode_of_track.Tie as tie
@@ -33,28 +31,19 @@ returns-2 c = let a = c .before .before .before .before .before .before .before 
     let none = sym (λ i. c .before .before .no-such-area .ensures i || c .before .no-such-track .ensures i || leb 14 (a .item)) ∙ c .if2 .taken in
     asked-refused _ (now (a .page)) 8 (simp (short, none))
 
-mul-text : tie.Need-mul-text
-mul-text c = search needs
-
-array-copy-out-text : tie.Need-array-copy-out-text
-array-copy-out-text c = leb-false 14 _ (or-right (c .before .before .before .no-such-area .result || c .before .before .no-such-track .result) _ (c .before .if2 .left))
-
-text-at-requires : tie.Need-text-at-requires
-text-at-requires c κs = search needs
-
-decode-requires : tie.Need-decode-requires
-decode-requires c κs = search needs
+decode-at-requires : tie.Need-decode-at-requires
+decode-at-requires c κs = search needs
 
 same-length : tie.Need-same-length
 same-length c = search needs
 
 returns-3 : tie.Need-returns-3
-unfolding trackTextIn textOf placeOf
-returns-3 c = let k = c .before .before .before .before .before .before .before in let l = k .before .before .before in
+unfolding trackTextIn textOf
+returns-3 c = let k = c .before .before .before .before in let l = k .before .before .before in
     let a = l .before .before .before .before .args in
     let short = sym (λ i. l .before .table-short .ensures i || ltb (a .room) 255) ∙ l .if1 .left in
     let none = sym (λ i. k .before .before .no-such-area .ensures i || k .before .no-such-track .ensures i || leb 14 (a .item)) ∙ k .if2 .left in
-    asked-found _ (now (a .page)) _ _ _ _ _ (simp (short, none)) (c .before .before .before .before .text-at .ensures) (c .before .before .decode .ensures .0) (c .before .before .decode .ensures .1)
+    asked-found _ (now (a .page)) _ _ _ _ _ (simp (short, none)) refl (c .before .before .decode-at .ensures .0) (c .before .before .decode-at .ensures .1)
 
 pub decode-of-track-spec : {M : Type 1} → statement M
 decode-of-track-spec =
@@ -65,9 +54,6 @@ decode-of-track-spec =
     no-such-area-requires
     no-such-track-requires
     returns-2
-    mul-text
-    array-copy-out-text
-    text-at-requires
-    decode-requires
+    decode-at-requires
     same-length
     returns-3)

@@ -1,4 +1,4 @@
--- `decode_track_text` meets its contract: a walk of its MIR. The number's place and the track there are asked for, and all else goes on to `decode_of_track`: the page at its own lifetime, since it is not needed after the call.
+-- `decode_track_text` meets its contract: a walk of its MIR. The number's place and where the text stands are asked for, and all else goes on to `decode_of_track`: the page at its own lifetime, since it is not needed after the call.
 -- Assumes nothing.
 use mathlib.Core.Path.{_≡_, refl, _∙_, ap}
 use Prim.Native.Nat.{ℕ, _<_, _^_}
@@ -41,21 +41,21 @@ use denote.Exit.{yes}
 use Rattle.text.specs.declared.decode.DecodeAnswer.{DecodeAnswer}
 use Rattle.text.proofs.decode.DecodeAnswer as D
 use Rattle.text.proofs.decode.DecodeAnswer.Laws as D′
-use Rattle.area.specs.TextDecode.{Text, trackIndex, trackTextIn, trackTextBy, textAnswer, textPage}
+use Rattle.area.specs.TextDecode.{Text, placeOf, trackIndex, trackTextIn, trackTextBy, textAnswer, textPage}
 use Rattle.area.specs.Track.{noTrack}
 use Rattle.area.specs.declared.area.Area.{Area}
 use Rattle.area.specs.declared.track.Track.{Track}
-use Rattle.area.proofs.Elem.{R, typed-at}
+use Rattle.area.proofs.Elem.{R}
 use Rattle.area.proofs.area.Area as Ar
 use Rattle.area.proofs.area.Area.Laws as Ar′
 use Rattle.area.proofs.decode.track_index as index
 use Rattle.area.proofs.decode.track_index.Symbol as index-def
 use Rattle.area.proofs.decode.track_index.Symbol.{name as #area·track-index}
 use Rattle.area.proofs.decode.track_index.Met as index-thm
-use Rattle.area.proofs.tracks.track_at as track-at
-use Rattle.area.proofs.tracks.track_at.Symbol as track-at-def
-use Rattle.area.proofs.tracks.track_at.Symbol.{name as #area·track-at}
-use Rattle.area.proofs.tracks.track_at.Met as track-at-thm
+use Rattle.area.proofs.tracks.place_at as place-at
+use Rattle.area.proofs.tracks.place_at.Symbol as place-at-def
+use Rattle.area.proofs.tracks.place_at.Symbol.{name as #area·place-at}
+use Rattle.area.proofs.tracks.place_at.Met as place-at-thm
 use Rattle.area.proofs.decode.decode_of_track as of-track
 use Rattle.area.proofs.decode.decode_of_track.Symbol as of-track-def
 use Rattle.area.proofs.decode.decode_of_track.Symbol.{name as #area·decode-of-track}
@@ -72,19 +72,20 @@ stayed = (stay-none-slice (0 ∷ []) tt (plain (λ _. u8)) yes, (stay-none (λ _
 abbrev slice-of : {X : Type 0} → RefT (List X) → Val
 slice-of x = sliceVal (x .ptr) (length (x .now))
 
--- the track of a number is the one at its place
-text-by-number : (lent : List ℕ) (area : Area) (ys : List Track) (number item j : ℕ) (t : Track) → j ≡ trackIndex number → t ≡ getD ys j noTrack
-    → trackTextIn lent area (length ys) t number item ≡ trackTextBy lent area ys number item
+-- the text of a number's track is the one at its place
+text-by-number : (lent : List ℕ) (area : Area) (ys : List Track) (number item j p : ℕ) → j ≡ trackIndex number → p ≡ placeOf (getD ys j noTrack .text) item
+    → trackTextIn lent area (length ys) p number item ≡ trackTextBy lent area ys number item
 unfolding trackTextBy
-text-by-number lent area ys number item j t e f = ap (λ (u : Track). trackTextIn lent area (length ys) u number item) (f ∙ ap (λ (k : ℕ). getD ys k noTrack) e)
+text-by-number lent area ys number item j p e f =
+    ap (λ (k : ℕ). trackTextIn lent area (length ys) k number item) (f ∙ ap (λ (k : ℕ). placeOf (getD ys k noTrack .text) item) e)
 
 module _ {M : Type 1} (𝓤 : URA M) (H : Heap 𝓤) (A : Atoms 𝓤) (mem : Memory → SProp 𝓤) (run : Routine → Fun 𝓤) where
   -- the contracts that the proof cites
   abbrev Index : Contract 𝓤
   Index = tripleOf 𝓤 H A index.signature (index.spec 𝓤 H A mem run)
 
-  abbrev TrackAt : Contract 𝓤
-  TrackAt = tripleOf 𝓤 H A track-at.signature (track-at.spec 𝓤 H A mem run)
+  abbrev PlaceAt : Contract 𝓤
+  PlaceAt = tripleOf 𝓤 H A place-at.signature (place-at.spec 𝓤 H A mem run)
 
   abbrev OfTrack : Contract 𝓤
   OfTrack = tripleOf 𝓤 H A of-track.signature (of-track.spec 𝓤 H A mem run)
@@ -150,36 +151,36 @@ module _ {M : Type 1} (𝓤 : URA M) (H : Heap 𝓤) (A : Atoms 𝓤) (W : Given
   index-said : (j : ℕ) → ent 𝓤 (ensured 𝓤 H A index.ended (index.clauses 𝓤 H A mem run) tt (number, tt) tt j) (fact 𝓤 (j ≡ trackIndex number))
   index-said j = exE 𝓤 _ (λ ws. snd∗ 𝓤 (sem 𝓤 H A (lasts index.ended tt (number, tt) ws)) (fact 𝓤 (j ≡ trackIndex number)))
 
-  -- ---- the call of `track_at`, for the place j
-  abbrev to-track : ℕ → TrackAt 𝓤 H A mem run .Ghost
-  to-track j = (((κ₁, tt), (q₁, tt), tt, (tr, (j, tt)), (slice-of tr ∷ [], (vint w64 j ∷ [], tt))), tt)
+  -- ---- the call of `place_at`, for the place j
+  abbrev to-place : ℕ → PlaceAt 𝓤 H A mem run .Ghost
+  to-place j = (((κ₁, tt), (q₁, tt), tt, (tr, (j, (item, tt))), (slice-of tr ∷ [], (vint w64 j ∷ [], (vint w32 item ∷ [], tt)))), tt)
 
-  asks-track : (j : ℕ) → ent 𝓤 (onEntry 𝓤 H A track-at.signature (κ₁, tt) (q₁, tt) (tr, (j, tt)) (to-track j .0 .4)) (TrackAt 𝓤 H A mem run .pre (to-track j))
-  asks-track j = qed W (raw (onEntry 𝓤 H A track-at.signature (κ₁, tt) (q₁, tt) (tr, (j, tt)) (to-track j .0 .4)) ∷ []) ∵ frame ! $ done !
+  asks-place : (j : ℕ) → ent 𝓤 (onEntry 𝓤 H A place-at.signature (κ₁, tt) (q₁, tt) (tr, (j, (item, tt))) (to-place j .0 .4)) (PlaceAt 𝓤 H A mem run .pre (to-place j))
+  asks-place j = qed W (raw (onEntry 𝓤 H A place-at.signature (κ₁, tt) (q₁, tt) (tr, (j, (item, tt))) (to-place j .0 .4)) ∷ []) ∵ frame ! $ done !
 
-  track-said : (j : ℕ) (t : Track) → ent 𝓤 (ensured 𝓤 H A track-at.ended (track-at.clauses 𝓤 H A mem run) (κ₁, tt) (tr, (j, tt)) tt t) (fact 𝓤 (t ≡ getD (tr .now) j noTrack))
-  track-said j t = exE 𝓤 _ (λ ws. snd∗ 𝓤 (sem 𝓤 H A (lasts track-at.ended (κ₁, tt) (tr, (j, tt)) ws)) (fact 𝓤 (t ≡ getD (tr .now) j noTrack)))
+  place-said : (j p : ℕ) → ent 𝓤 (ensured 𝓤 H A place-at.ended (place-at.clauses 𝓤 H A mem run) (κ₁, tt) (tr, (j, (item, tt))) tt p) (fact 𝓤 (p ≡ placeOf (getD (tr .now) j noTrack .text) item))
+  place-said j p = exE 𝓤 _ (λ ws. snd∗ 𝓤 (sem 𝓤 H A (lasts place-at.ended (κ₁, tt) (tr, (j, (item, tt))) ws)) (fact 𝓤 (p ≡ placeOf (getD (tr .now) j noTrack .text) item)))
 
-  -- ---- the call of `decode_of_track`, for the track t, whose machine value is v
-  abbrev of-track-args : Track → RefT (List ℕ) × (Area × (ℕ × (Track × (ℕ × (ℕ × (RefT (List ℕ) × Unit {0}))))))
-  of-track-args t = (s, (area, (m, (t, (number, (item, (pg, tt)))))))
+  -- ---- the call of `decode_of_track`, for the place p, whose machine value is v
+  abbrev of-track-args : ℕ → RefT (List ℕ) × (Area × (ℕ × (ℕ × (ℕ × (ℕ × (RefT (List ℕ) × Unit {0}))))))
+  of-track-args p = (s, (area, (m, (p, (number, (item, (pg, tt)))))))
 
-  abbrev to-of-track : Track → Val → OfTrack 𝓤 H A mem run .Ghost
-  to-of-track t v = (((κ₀, (κ₂, tt)), (q₀, (q₂, tt)), tt, of-track-args t, (slice-of s ∷ [], (av ∷ [], (vint w64 m ∷ [], (v ∷ [], (vint w32 number ∷ [], (vint w32 item ∷ [], (slice-of pg ∷ [], tt)))))))), tt)
+  abbrev to-of-track : ℕ → Val → OfTrack 𝓤 H A mem run .Ghost
+  to-of-track p v = (((κ₀, (κ₂, tt)), (q₀, (q₂, tt)), tt, of-track-args p, (slice-of s ∷ [], (av ∷ [], (vint w64 m ∷ [], (v ∷ [], (vint w32 number ∷ [], (vint w32 item ∷ [], (slice-of pg ∷ [], tt)))))))), tt)
 
-  asks-of-track : (t : Track) (v : Val) → ent 𝓤 (onEntry 𝓤 H A of-track.signature (κ₀, (κ₂, tt)) (q₀, (q₂, tt)) (of-track-args t) (to-of-track t v .0 .4)) (OfTrack 𝓤 H A mem run .pre (to-of-track t v))
-  asks-of-track t v = qed W (raw (onEntry 𝓤 H A of-track.signature (κ₀, (κ₂, tt)) (q₀, (q₂, tt)) (of-track-args t) (to-of-track t v .0 .4)) ∷ []) ∵ frame ! $ done !
+  asks-of-track : (p : ℕ) (v : Val) → ent 𝓤 (onEntry 𝓤 H A of-track.signature (κ₀, (κ₂, tt)) (q₀, (q₂, tt)) (of-track-args p) (to-of-track p v .0 .4)) (OfTrack 𝓤 H A mem run .pre (to-of-track p v))
+  asks-of-track p v = qed W (raw (onEntry 𝓤 H A of-track.signature (κ₀, (κ₂, tt)) (q₀, (q₂, tt)) (of-track-args p) (to-of-track p v .0 .4)) ∷ []) ∵ frame ! $ done !
 
-  abbrev Answered : Track → DecodeAnswer → Type 0
-  Answered t d = d ≡ textAnswer (trackTextIn (s .now) area m t number item) (length (pg .now))
+  abbrev Answered : ℕ → DecodeAnswer → Type 0
+  Answered p d = d ≡ textAnswer (trackTextIn (s .now) area m p number item) (length (pg .now))
 
-  abbrev Filled : Track → List ℕ → Type 0
-  Filled t zp = zp ≡ textPage (trackTextIn (s .now) area m t number item) (pg .now)
+  abbrev Filled : ℕ → List ℕ → Type 0
+  Filled p zp = zp ≡ textPage (trackTextIn (s .now) area m p number item) (pg .now)
 
   -- the MIR
-  walk : (𝓣 : Tables 𝓤 H) → Triple 𝓤 (𝓣 .C #area·track-index) (Index 𝓤 H A mem run) → Triple 𝓤 (𝓣 .C #area·track-at) (TrackAt 𝓤 H A mem run) → Triple 𝓤 (𝓣 .C #area·decode-of-track) (OfTrack 𝓤 H A mem run)
+  walk : (𝓣 : Tables 𝓤 H) → Triple 𝓤 (𝓣 .C #area·track-index) (Index 𝓤 H A mem run) → Triple 𝓤 (𝓣 .C #area·place-at) (PlaceAt 𝓤 H A mem run) → Triple 𝓤 (𝓣 .C #area·decode-of-track) (OfTrack 𝓤 H A mem run)
       → ent 𝓤 (onEntry 𝓤 H A texts.signature (κ₀, (κ₁, (κ₂, tt))) (q₀, (q₁, (q₂, tt))) a at) (WpFn 𝓤 H (𝓣 .C) (𝓣 .Λ) code.function (slice-of s ∷ av ∷ slice-of tr ∷ vint w32 number ∷ vint w32 item ∷ slice-of pg ∷ []) Post)
-  walk 𝓣 known-index known-track known-of-track =
+  walk 𝓣 known-index known-place known-of-track =
       qed W ((‵ (flft κ₀ q₀) ⊛ ‵ (flft κ₁ q₁) ⊛ ‵ (flft κ₂ q₂) ⊛ ‵ ftrue) ∷ ‵ (owns (ShrSlice (named 0) κ₀ u8 ∷ Ar.the-row ∷ ShrSlice (named 1) κ₁ R ∷ u32 ∷ u32 ∷ MutSlice (named 2) κ₂ u8 ∷ []) a at) ∷ []) ∵
       enter ! (𝓣 .C) (𝓣 .Λ) code.function (slice-of s ∷ av ∷ slice-of tr ∷ vint w32 number ∷ vint w32 item ∷ slice-of pg ∷ []) _ $
       alloc1 ! (λ l₀. alloc1 ! (λ l₁. alloc1 ! (λ l₂. alloc1 ! (λ l₃. alloc1 ! (λ l₄. alloc1 ! (λ l₅. alloc1 ! (λ l₆. alloc1 ! (λ l₇. alloc1 ! (λ l₈. alloc1 ! (λ l₉. alloc1 ! (λ l₁₀. alloc0 ! $ params1 ! $
@@ -195,15 +196,15 @@ module _ {M : Type 1} (𝓤 : URA M) (H : Heap 𝓤) (A : Atoms 𝓤) (W : Given
       peeks ! usize (Is usize) (shows 𝓤 H A usize) j (u ∷ []) (λ j-is. land ! (from ! (stop !)) (init ! 12 refl (uint-lawful 𝓤 H A W w64 .typed j (u ∷ []) j-is .0)) $
       rewrite ! 12 (λ (x : Val). ‵ (fat fullShare (tyInt w64) l₈ 0 x)) (ap only (uint-tells w64 j (u ∷ []) j-is)) refl $
       keep ! (2 ∷ 3 ∷ 4 ∷ 5 ∷ 6 ∷ 7 ∷ 8 ∷ 9 ∷ 10 ∷ 11 ∷ 12 ∷ 13 ∷ 14 ∷ 15 ∷ 16 ∷ 17 ∷ 18 ∷ 19 ∷ 20 ∷ 21 ∷ 22 ∷ 23 ∷ 24 ∷ 25 ∷ 26 ∷ 27 ∷ 28 ∷ 29 ∷ []) $
-      -- `track_at`: a copy of the tracks
+      -- `place_at`: a copy of the tracks
       move ! (4 ∷ []) $ use1 W (‵ Tracks ⊛ ‵ Tracks) (shr-slice-copy 𝓤 H A W (named 1) κ₁ R .twice tr (slice-of tr ∷ [])) $ split ! $
-      nothing ! $ owned ! usize (Is usize) (uint-makes 𝓤 H A W w64) j _ (refl, j-is .1) $ fjoin ! $ move ! (1 ∷ 0 ∷ []) $ fjoin ! $ nothing ! $ move ! (4 ∷ 0 ∷ []) $ join ! $ use2 W (raw (TrackAt 𝓤 H A mem run .pre (to-track j))) (asks-track j) $
-      calls-at ! fm (TrackAt 𝓤 H A mem run) known-track (to-track j) (and-then ! (load ! (from ! (stop !)) (look ! 20 refl)) (and-then ! (load ! (from ! (stop !)) (look ! 10 refl)) (no-more !))) (λ v.
-      use1 W (later (some (λ (t : Track). ((‵ (flft κ₁ q₁) ⊛ ‵ ftrue) ⊛ ‵ (R .own t (v ∷ []))) ⊛ raw (ensured 𝓤 H A track-at.ended (track-at.clauses 𝓤 H A mem run) (κ₁, tt) (tr, (j, tt)) tt t)))) (id⊢ 𝓤 _) $ await ! tt $ pick ! (λ t.
-      split ! $ move ! (1 ∷ []) $ use1 W (raw (fact 𝓤 (t ≡ getD (tr .now) j noTrack))) (track-said j t) $ heard ! (t ≡ getD (tr .now) j noTrack) (λ f. split ! $ move ! (1 ∷ []) $
-      peeks ! R (Is R) (shows 𝓤 H A R) t (v ∷ []) (λ t-is. land ! (from ! (stop !)) (init ! 13 refl (typed-at 𝓤 H A W t v t-is)) $ move ! (1 ∷ []) $ split ! $
+      nothing ! $ owned ! u32 (Is u32) (uint-makes 𝓤 H A W w32) item _ (refl, item-fits) $ fjoin ! $ owned ! usize (Is usize) (uint-makes 𝓤 H A W w64) j _ (refl, j-is .1) $ fjoin ! $ move ! (1 ∷ 0 ∷ []) $ fjoin ! $ nothing ! $ move ! (4 ∷ 0 ∷ []) $ join ! $ use2 W (raw (PlaceAt 𝓤 H A mem run .pre (to-place j))) (asks-place j) $
+      calls-at ! fm (PlaceAt 𝓤 H A mem run) known-place (to-place j) (and-then ! (load ! (from ! (stop !)) (look ! 20 refl)) (and-then ! (load ! (from ! (stop !)) (look ! 10 refl)) (and-then ! (load ! (from ! (stop !)) (look ! 16 refl)) (no-more !)))) (λ v.
+      use1 W (later (some (λ (p : ℕ). ((‵ (flft κ₁ q₁) ⊛ ‵ ftrue) ⊛ ‵ (u32 .own p (v ∷ []))) ⊛ raw (ensured 𝓤 H A place-at.ended (place-at.clauses 𝓤 H A mem run) (κ₁, tt) (tr, (j, (item, tt))) tt p)))) (id⊢ 𝓤 _) $ await ! tt $ pick ! (λ p.
+      split ! $ move ! (1 ∷ []) $ use1 W (raw (fact 𝓤 (p ≡ placeOf (getD (tr .now) j noTrack .text) item))) (place-said j p) $ heard ! (p ≡ placeOf (getD (tr .now) j noTrack .text) item) (λ f. split ! $ move ! (1 ∷ []) $
+      peeks ! u32 (Is u32) (shows 𝓤 H A u32) p (v ∷ []) (λ p-is. land ! (from ! (stop !)) (init ! 13 refl (uint-lawful 𝓤 H A W w32 .typed p (v ∷ []) p-is .0)) $ move ! (1 ∷ []) $ split ! $
       keep ! (4 ∷ 0 ∷ 5 ∷ 6 ∷ 3 ∷ 7 ∷ 2 ∷ 8 ∷ 9 ∷ 10 ∷ 11 ∷ 12 ∷ 13 ∷ 14 ∷ 15 ∷ 16 ∷ 17 ∷ 18 ∷ 19 ∷ 20 ∷ 21 ∷ 22 ∷ 23 ∷ 24 ∷ 25 ∷ 26 ∷ 27 ∷ 28 ∷ 29 ∷ []) $
-      -- [the three tokens; what table, tracks, page and the track own; _10; …; _0; …]: the count of the tracks, and `&mut *page`
+      -- [the three tokens; what table, tracks, page and the place own; _10; …; _0; …]: the count of the tracks, and `&mut *page`
       assigns ! (of-opd ! (load ! (from ! (fld ! refl (stop !))) (look-in ! 21 (sub ! 1 refl (whole !))))) (from ! (stop !)) (store ! 11 refl (tt, record { fits = tr-room .0 })) $
       assigns ! (addr ! (from ! (fld ! refl (hop ! (look-in ! 15 (sub ! 0 refl (whole !))) (stop !))))) (from ! (stop !)) (init ! 9 refl (tt, tt)) $
       assigns ! (agg ! (and-then ! (load ! (from ! (stop !)) (look ! 9 refl)) (and-then ! (load ! (from ! (fld ! refl (stop !))) (look-in ! 15 (sub ! 1 refl (whole !)))) (no-more !)))) (from ! (stop !)) (init ! 7 refl (tt, (tt, (record { fits = pg-room .0 }, tt)))) $
@@ -211,12 +212,12 @@ module _ {M : Type 1} (𝓤 : URA M) (H : Heap 𝓤) (A : Atoms 𝓤) (W : Given
       move ! (3 ∷ []) $ use1 W (‵ Table ⊛ ‵ Table) (shr-slice-copy 𝓤 H A W (named 0) κ₀ u8 .twice s (slice-of s ∷ [])) $ split ! $
       nothing ! $ move ! (7 ∷ 0 ∷ []) $ fjoin ! $ owned ! u32 (Is u32) (uint-makes 𝓤 H A W w32) item _ (refl, item-fits) $ fjoin ! $ owned ! u32 (Is u32) (uint-makes 𝓤 H A W w32) number _ (refl, number-fits) $ fjoin ! $ move ! (7 ∷ 0 ∷ []) $ fjoin ! $
       owned ! usize (Is usize) (uint-makes 𝓤 H A W w64) m _ (refl, tr-room .0) $ fjoin ! $ owned ! Ar.the-row IsArea (area-makes 𝓤 H A) area _ area-is $ fjoin ! $ move ! (1 ∷ 0 ∷ []) $ fjoin ! $
-      nothing ! $ move ! (5 ∷ 0 ∷ []) $ join ! $ move ! (3 ∷ 0 ∷ []) $ join ! $ use2 W (raw (OfTrack 𝓤 H A mem run .pre (to-of-track t v))) (asks-of-track t v) $
-      calls-at ! fm (OfTrack 𝓤 H A mem run) known-of-track (to-of-track t v) (and-then ! (load ! (from ! (stop !)) (look ! 22 refl)) (and-then ! (load ! (from ! (stop !)) (look ! 20 refl)) (and-then ! (load ! (from ! (stop !)) (look ! 8 refl)) (and-then ! (load ! (from ! (stop !)) (look ! 10 refl))
+      nothing ! $ move ! (5 ∷ 0 ∷ []) $ join ! $ move ! (3 ∷ 0 ∷ []) $ join ! $ use2 W (raw (OfTrack 𝓤 H A mem run .pre (to-of-track p v))) (asks-of-track p v) $
+      calls-at ! fm (OfTrack 𝓤 H A mem run) known-of-track (to-of-track p v) (and-then ! (load ! (from ! (stop !)) (look ! 22 refl)) (and-then ! (load ! (from ! (stop !)) (look ! 20 refl)) (and-then ! (load ! (from ! (stop !)) (look ! 8 refl)) (and-then ! (load ! (from ! (stop !)) (look ! 10 refl))
       (and-then ! (load ! (from ! (stop !)) (look ! 16 refl)) (and-then ! (load ! (from ! (stop !)) (look ! 14 refl)) (and-then ! (load ! (from ! (stop !)) (look ! 4 refl)) (no-more !)))))))) (λ w.
-      use1 W (later (some (λ (d : DecodeAnswer). ((‵ (flft κ₀ q₀) ⊛ ‵ (flft κ₂ q₂) ⊛ ‵ ftrue) ⊛ ‵ (D.the-row .own d (w ∷ []))) ⊛ raw (ensured 𝓤 H A of-track.ended (of-track.clauses 𝓤 H A mem run) (κ₀, (κ₂, tt)) (of-track-args t) tt d)))) (id⊢ 𝓤 _) $ await ! tt $ pick ! (λ d.
-      split ! $ move ! (1 ∷ []) $ use1 W (some (λ (ws : Unit {0} × (Unit {0} × (Unit {0} × (Unit {0} × (Unit {0} × (Unit {0} × (List ℕ × Unit {0}))))))). ‵ (lasts of-track.ended (κ₀, (κ₂, tt)) (of-track-args t) ws) ⊛ (raw (fact 𝓤 (Answered t d)) ⊛ raw (fact 𝓤 (Filled t (ws .1 .1 .1 .1 .1 .1 .0)))))) (id⊢ 𝓤 _) $ pick ! (λ ws.
-      split ! $ move ! (1 ∷ []) $ split ! $ heard ! (Answered t d) (λ g. heard ! (Filled t (ws .1 .1 .1 .1 .1 .1 .0)) (λ h.
+      use1 W (later (some (λ (d : DecodeAnswer). ((‵ (flft κ₀ q₀) ⊛ ‵ (flft κ₂ q₂) ⊛ ‵ ftrue) ⊛ ‵ (D.the-row .own d (w ∷ []))) ⊛ raw (ensured 𝓤 H A of-track.ended (of-track.clauses 𝓤 H A mem run) (κ₀, (κ₂, tt)) (of-track-args p) tt d)))) (id⊢ 𝓤 _) $ await ! tt $ pick ! (λ d.
+      split ! $ move ! (1 ∷ []) $ use1 W (some (λ (ws : Unit {0} × (Unit {0} × (Unit {0} × (Unit {0} × (Unit {0} × (Unit {0} × (List ℕ × Unit {0}))))))). ‵ (lasts of-track.ended (κ₀, (κ₂, tt)) (of-track-args p) ws) ⊛ (raw (fact 𝓤 (Answered p d)) ⊛ raw (fact 𝓤 (Filled p (ws .1 .1 .1 .1 .1 .1 .0)))))) (id⊢ 𝓤 _) $ pick ! (λ ws.
+      split ! $ move ! (1 ∷ []) $ split ! $ heard ! (Answered p d) (λ g. heard ! (Filled p (ws .1 .1 .1 .1 .1 .1 .0)) (λ h.
       -- the last list of page, under its own name
       fsplit ! $ move ! (1 ∷ []) $ fsplit ! $ move ! (1 ∷ []) $ fsplit ! $ move ! (1 ∷ []) $ fsplit ! $ move ! (1 ∷ []) $ fsplit ! $ move ! (1 ∷ []) $ fsplit ! $ move ! (1 ∷ []) $ fsplit ! $ fsplit ! $ move ! (1 ∷ []) $ feqL ! (λ l.
       move ! (8 ∷ []) $ split ! $ move ! (1 ∷ []) $ peeks ! D.the-row (Is D.the-row) (shows 𝓤 H A D.the-row) d (w ∷ []) (λ d-is. land ! (from ! (stop !)) (init ! 33 refl (LL.lawful D.the-type D′.the-laws 𝓤 H A W .typed d (w ∷ []) d-is .0)) $
@@ -225,32 +226,32 @@ module _ {M : Type 1} (𝓤 : URA M) (H : Heap 𝓤) (A : Atoms 𝓤) (W : Given
       -- [the three tokens; what table and tracks own; page's last list; what the answer owns; _10; …; _0; …]
       returns ! (look ! 27 refl) $ forget ! 7 refl $ forget ! 9 refl $ forget ! 11 refl $ forget ! 13 refl $ forget ! 15 refl $ forget ! 17 refl $ forget ! 19 refl $ forget ! 21 refl $ forget ! 23 refl $ forget ! 25 refl $ forget ! 27 refl $
       move ! (27 ∷ 28 ∷ []) $ free1 ! $ move ! (25 ∷ 26 ∷ []) $ free1 ! $ move ! (23 ∷ 24 ∷ []) $ free1 ! $ move ! (21 ∷ 22 ∷ []) $ free1 ! $ move ! (19 ∷ 20 ∷ []) $ free1 ! $ move ! (17 ∷ 18 ∷ []) $ free1 ! $ move ! (15 ∷ 16 ∷ []) $ free1 ! $ move ! (13 ∷ 14 ∷ []) $ free1 ! $ move ! (11 ∷ 12 ∷ []) $ free1 ! $ move ! (9 ∷ 10 ∷ []) $ free1 ! $ move ! (7 ∷ 8 ∷ []) $ free1 ! $ free0 ! $
-      by ! (exits d w (ws .1 .1 .1 .1 .1 .1 .0) (g ∙ ap (λ (x : Text). textAnswer x (length (pg .now))) (same j t e f), h ∙ ap (λ (x : Text). textPage x (pg .now)) (same j t e f)) l)))))))))))))))))))))))))))
+      by ! (exits d w (ws .1 .1 .1 .1 .1 .1 .0) (g ∙ ap (λ (x : Text). textAnswer x (length (pg .now))) (same j p e f), h ∙ ap (λ (x : Text). textPage x (pg .now)) (same j p e f)) l)))))))))))))))))))))))))))
     where
       fm : FmC 𝓤 H (W .laws) (𝓣 .C)
       fm = fmOf 𝓤 H (W .laws) 𝓣
 
-      same : (j : ℕ) (t : Track) → j ≡ trackIndex number → t ≡ getD (tr .now) j noTrack → trackTextIn (s .now) area m t number item ≡ trackTextBy (s .now) area (tr .now) number item
-      same j t = text-by-number (s .now) area (tr .now) number item j t
+      same : (j p : ℕ) → j ≡ trackIndex number → p ≡ placeOf (getD (tr .now) j noTrack .text) item → trackTextIn (s .now) area m p number item ≡ trackTextBy (s .now) area (tr .now) number item
+      same j p = text-by-number (s .now) area (tr .now) number item j p
 
 module _ {M : Type 1} (𝓤 : URA M) (H : Heap 𝓤) (A : Atoms 𝓤) (W : Given 𝓤 H A) (mem : Memory → SProp 𝓤) (run : Routine → Fun 𝓤) where
-  decode-track-text-walks : (𝓣 : Tables 𝓤 H) → Triple 𝓤 (𝓣 .C #area·track-index) (Index 𝓤 H A mem run) → Triple 𝓤 (𝓣 .C #area·track-at) (TrackAt 𝓤 H A mem run) → Triple 𝓤 (𝓣 .C #area·decode-of-track) (OfTrack 𝓤 H A mem run)
+  decode-track-text-walks : (𝓣 : Tables 𝓤 H) → Triple 𝓤 (𝓣 .C #area·track-index) (Index 𝓤 H A mem run) → Triple 𝓤 (𝓣 .C #area·place-at) (PlaceAt 𝓤 H A mem run) → Triple 𝓤 (𝓣 .C #area·decode-of-track) (OfTrack 𝓤 H A mem run)
       → Walks 𝓤 H A texts.ended stayed (WpFn 𝓤 H (𝓣 .C) (𝓣 .Λ) code.function) (texts.clauses 𝓤 H A mem run)
   unfolding Post IsArea
-  decode-track-text-walks 𝓣 known-index known-track known-of-track = walked 𝓤 H A texts.ended stayed (texts.clauses 𝓤 H A mem run) (WpFn 𝓤 H (𝓣 .C) (𝓣 .Λ) code.function)
+  decode-track-text-walks 𝓣 known-index known-place known-of-track = walked 𝓤 H A texts.ended stayed (texts.clauses 𝓤 H A mem run) (WpFn 𝓤 H (𝓣 .C) (𝓣 .Λ) code.function)
       (λ κs. (slice-vals, (LL.vals Ar.the-type Ar′.the-laws, (slice-vals, (uint-vals w32, (uint-vals w32, (slice-vals, tt)))))))
       (λ κs. (shr-slice-tells (named 0) (κs .0) u8, (LL.tells Ar.the-type Ar′.the-laws, (shr-slice-tells (named 1) (κs .1 .0) R, (uint-tells w32, (uint-tells w32, (mut-slice-tells (named 2) (κs .1 .1 .0) u8, tt)))))))
       (λ κs qs bounds a g are. via 𝓤 _ (fst∗ 𝓤 _ (emp 𝓤))
       (walk 𝓤 H A W mem run (κs .0) (κs .1 .0) (κs .1 .1 .0) (qs .0) (qs .1 .0) (qs .1 .1 .0) (a .0) (a .1 .0) (LL.val Ar.the-type Ar′.the-laws (a .1 .0)) (a .1 .1 .0) (a .1 .1 .1 .0) (a .1 .1 .1 .1 .0) (a .1 .1 .1 .1 .1 .0)
-      (are .0 .0 .1) (are .1 .0) (are .1 .1 .0 .0 .1) (are .1 .1 .1 .0 .1) (are .1 .1 .1 .1 .0 .1) (are .1 .1 .1 .1 .1 .0 .0 .1) 𝓣 known-index known-track known-of-track))
+      (are .0 .0 .1) (are .1 .0) (are .1 .1 .0 .0 .1) (are .1 .1 .1 .0 .1) (are .1 .1 .1 .1 .0 .1) (are .1 .1 .1 .1 .1 .0 .0 .1) 𝓣 known-index known-place known-of-track))
 
 decode-track-text-meets : {M : Type 1} (𝓤 : URA M) (H : Heap 𝓤) (A : Atoms 𝓤) → Given 𝓤 H A → (mem : Memory → SProp 𝓤) (run : Routine → Fun 𝓤) (𝓣 : Tables 𝓤 H)
-    → Triple 𝓤 (𝓣 .C #area·track-index) (Index 𝓤 H A mem run) → Triple 𝓤 (𝓣 .C #area·track-at) (TrackAt 𝓤 H A mem run) → Triple 𝓤 (𝓣 .C #area·decode-of-track) (OfTrack 𝓤 H A mem run)
+    → Triple 𝓤 (𝓣 .C #area·track-index) (Index 𝓤 H A mem run) → Triple 𝓤 (𝓣 .C #area·place-at) (PlaceAt 𝓤 H A mem run) → Triple 𝓤 (𝓣 .C #area·decode-of-track) (OfTrack 𝓤 H A mem run)
     → Meets 𝓤 H A texts.signature (WpFn 𝓤 H (𝓣 .C) (𝓣 .Λ) code.function) (texts.spec 𝓤 H A mem run)
-decode-track-text-meets 𝓤 H A W mem run 𝓣 known-index known-track known-of-track =
+decode-track-text-meets 𝓤 H A W mem run 𝓣 known-index known-place known-of-track =
     walk-meets 𝓤 H A texts.ended stayed W
     (goes-none-slice 𝓤 H A W 3 (0 ∷ []) tt (plain (λ _. u8)) yes, (goes-none 𝓤 H A W 3 (λ _. Ar.the-row) yes (λ κs x f. refl), (goes-none-slice 𝓤 H A W 3 (1 ∷ []) tt (plain (λ _. R)) yes, (goes-none 𝓤 H A W 3 (λ _. u32) yes (λ κs x f. refl), (goes-none 𝓤 H A W 3 (λ _. u32) yes (λ κs x f. refl), (goes-gave-slice 𝓤 H A W 3 2 tt (plain (λ _. u8)), tt))))))
-    (texts.clauses 𝓤 H A mem run) (WpFn 𝓤 H (𝓣 .C) (𝓣 .Λ) code.function) (WpFn-mono 𝓤 H (W .laws) 𝓣 code.function) (decode-track-text-walks 𝓤 H A W mem run 𝓣 known-index known-track known-of-track)
+    (texts.clauses 𝓤 H A mem run) (WpFn 𝓤 H (𝓣 .C) (𝓣 .Λ) code.function) (WpFn-mono 𝓤 H (W .laws) 𝓣 code.function) (decode-track-text-walks 𝓤 H A W mem run 𝓣 known-index known-place known-of-track)
 
 pub decode-track-text-spec : {M : Type 1} → stated.statement M
 unfolding code.routine tablesOf
@@ -259,5 +260,5 @@ decode-track-text-spec 𝓤 H 𝓜 𝓖 𝓡 =
     (tables 𝓤 H 𝓜 𝓡 code.env .C) (tables 𝓤 H 𝓜 𝓡 code.env .Λ) #area·decode-track-text code.function (code.unfolded 𝓤 H 𝓜 𝓡)
     (decode-track-text-meets 𝓤 H (𝓖 .A) (givenOf 𝓤 H 𝓜 𝓖) (𝓜 .mem) (𝓡 .run) (tablesOf 𝓤 H 𝓜 (tables 𝓤 H 𝓜 𝓡 code.env))
     (cited 𝓤 H (Index 𝓤 H (𝓖 .A) (𝓜 .mem) (𝓡 .run)) 𝓜 𝓡 code.env #area·track-index index-def.routine code.calls-area·decode·track-index (index-thm.met 𝓤 H 𝓜 𝓖 𝓡))
-    (cited 𝓤 H (TrackAt 𝓤 H (𝓖 .A) (𝓜 .mem) (𝓡 .run)) 𝓜 𝓡 code.env #area·track-at track-at-def.routine code.calls-area·tracks·track-at (track-at-thm.met 𝓤 H 𝓜 𝓖 𝓡))
+    (cited 𝓤 H (PlaceAt 𝓤 H (𝓖 .A) (𝓜 .mem) (𝓡 .run)) 𝓜 𝓡 code.env #area·place-at place-at-def.routine code.calls-area·tracks·place-at (place-at-thm.met 𝓤 H 𝓜 𝓖 𝓡))
     (cited 𝓤 H (OfTrack 𝓤 H (𝓖 .A) (𝓜 .mem) (𝓡 .run)) 𝓜 𝓡 code.env #area·decode-of-track of-track-def.routine code.calls-area·decode·decode-of-track (of-track-thm.met 𝓤 H 𝓜 𝓖 𝓡)))

@@ -3,6 +3,7 @@
 use mathlib.Core.Path.{_≡_, refl, sym, ap, _∙_}
 use mathlib.Core.Bool.{cond}
 use mathlib.Core.List.{List, []}
+use mathlib.Core.Logic.{⊎-elim}
 use Prim.Native.Nat.{ℕ, suc, _+_, _-_, _≤_, _<_}
 use native.Mathlib.Omega.{arith}
 use denote.Ref.{now}
@@ -16,8 +17,9 @@ use Rattle.text.specs.StringLaws.{string-end}
 use Rattle.area.specs.TestLaws.{cond-same}
 use Rattle.area.specs.Items.{Item, itemAt, nonzeroAt, nextItem, itemsFrom}
 use Rattle.area.specs.ItemLaws.{nonzero-more, nonzero-found, nonzero-end, items-none, items-short, items-first}
-use Rattle.area.specs.TrackText.{noPlaces, noItems, keep, keepAll, itemsKept}
+use Rattle.area.specs.TrackText.{trackTexts, noPlaces, noItems, keep, keepAll, itemsKept}
 use Rattle.area.specs.declared.track_text.ItemsKept.{ItemsKept}
+use Rattle.area.proofs.Keeping.{full-and-known, keep-empty, keep-known, keep-unknown}
 use Rattle.area.proofs.track_text.items_kept.Statement.{statement}
 use Rattle.area.proofs.track_text.items_kept.Tie as tie
 
@@ -56,7 +58,7 @@ module _ {all : ItemsKept} where
   unfolding keepAll
   all-kept before e leads = ap (λ (items : List Item). keepAll items before) (sym e) ∙ leads
 
-  -- a turn, as the calls find the item's string and what is kept of it
+  -- a turn, as the call finds the item's string and the arms meet with what is kept of it
   turn : (table : List ℕ) (at left : ℕ) (before after : ItemsKept) (string : List ℕ) → at + 2 ≤ length table → 0 < left
       → string ≡ stringAt table (at + 2) → after ≡ keep (record { kind = getD table at 0; place = at + 2; len = length string }) before
       → keepAll (itemsFrom table at left) before ≡ all
@@ -71,17 +73,42 @@ module _ {all : ItemsKept} where
       ∙ leads
 
 abbrev Inv-loop : tie.InvT-loop
-Inv-loop table place count kept-items q₀ left len q = keepAll (searched table q left) kept-items ≡ itemsKept table place count
+Inv-loop table place count places unknown q₀ left len index q =
+    keepAll (searched table q left) (record { places = places; unknown = unknown }) ≡ itemsKept table place count
 
 abbrev μ-loop : tie.MeasureT-loop
-μ-loop table place count kept-items q₀ left len q = length table - q
+μ-loop table place count places unknown q₀ left len index q = length table - q
 
 abbrev Inv-items : tie.InvT-items
-Inv-items table place count kept-items₀ q₀ left₀ kept-items q left =
-    keepAll (itemsFrom table q left) kept-items ≡ itemsKept table place count
+Inv-items table place count places₀ unknown₀ q₀ left₀ places unknown q left =
+    keepAll (itemsFrom table q left) (record { places = places; unknown = unknown }) ≡ itemsKept table place count
 
 abbrev μ-items : tie.MeasureT-items
-μ-items table place count kept-items₀ q₀ left₀ kept-items q left = left
+μ-items table place count places₀ unknown₀ q₀ left₀ places unknown q left = left
+
+-- the type of an item that takes its place is known
+of-known-type : (c : tie.Then3 Inv-loop μ-loop Inv-items μ-items) → c .before .item-index .result < trackTexts
+of-known-type c = full-and-known (length (c .before .before .before .string-bytes .result .now)) _ (c .if3 .taken) .1
+
+-- where the arms meet, the turn's item is kept over those before it
+turned : (c : tie.Joined3 Inv-loop μ-loop Inv-items μ-items)
+    → let k = c .before in let l = k .before .before .before .before .before .before in let a = l .before .before .args in
+    keepAll (searched (now (a .table)) (l .items .q + 2 + length (k .before .before .string-bytes .result .now)) (l .items .left - 1))
+    (record { places = c .if3 .places; unknown = c .if3 .unknown })
+    ≡ itemsKept (now (a .table)) (a .place) (a .count)
+turned c =
+    let k = c .before in let l = k .before .before .before .before .before .before in
+    let table = now (l .before .before .args .table) in let s = k .before .before .string-bytes in
+    let item : Item = record { kind = getD table (l .items .q) 0; place = l .items .q + 2; len = length (s .result .now) } in
+    let before : ItemsKept = record { places = l .items .places; unknown = l .items .unknown } in
+    let kept : record { places = c .if3 .places; unknown = c .if3 .unknown } ≡ keep item before =
+    ⊎-elim (λ w. (λ i. record { places = w .1 i; unknown = w .2 i }) ∙ keep-known item before (k .item-index .ensures) (w .0 .taken))
+    (⊎-elim
+    (λ w. (λ i. record { places = w .2 i; unknown = w .3 i })
+    ∙ keep-unknown item before (k .item-index .ensures) (w .0 .left) (w .1 .taken))
+    (λ w. (λ i. record { places = w .2 i; unknown = w .3 i }) ∙ keep-empty item before (w .1 .left)))
+    (c .if3 .came) in
+    turn table (l .items .q) (l .items .left) before _ (s .result .now) (omega arith) (omega arith) (s .ensures .0) kept (l .items .inv)
 
 items-holds : tie.Need-items-holds Inv-loop μ-loop Inv-items μ-items
 unfolding itemsKept noItems noPlaces
@@ -96,27 +123,33 @@ add-string-bytes c = search needs
 string-bytes-requires : tie.Need-string-bytes-requires Inv-loop μ-loop Inv-items μ-items
 string-bytes-requires c κs = search needs
 
-shared-slice-read-kept : tie.Need-shared-slice-read-kept Inv-loop μ-loop Inv-items μ-items
-shared-slice-read-kept c = search needs
+shared-slice-read-item-index : tie.Need-shared-slice-read-item-index Inv-loop μ-loop Inv-items μ-items
+shared-slice-read-item-index c = search needs
 
-add-kept : tie.Need-add-kept Inv-loop μ-loop Inv-items μ-items
-add-kept c = search needs
+item-index-requires : tie.Need-item-index-requires Inv-loop μ-loop Inv-items μ-items
+item-index-requires c κs = search needs
 
-cast-kept : tie.Need-cast-kept Inv-loop μ-loop Inv-items μ-items
-cast-kept c = search needs
+add-t19 : tie.Need-add-t19 Inv-loop μ-loop Inv-items μ-items
+add-t19 c = search needs
 
-kept-requires : tie.Need-kept-requires Inv-loop μ-loop Inv-items μ-items
-kept-requires c κs = search needs
+cast-t20 : tie.Need-cast-t20 Inv-loop μ-loop Inv-items μ-items
+cast-t20 c = search needs
+
+mul-places : tie.Need-mul-places Inv-loop μ-loop Inv-items μ-items
+mul-places c = let h = of-known-type c in search needs
+
+array-set-from-places : tie.Need-array-set-from-places Inv-loop μ-loop Inv-items μ-items
+array-set-from-places c = of-known-type c
 
 add-q : tie.Need-add-q Inv-loop μ-loop Inv-items μ-items
 add-q c = search needs
 
 add-q-2 : tie.Need-add-q-2 Inv-loop μ-loop Inv-items μ-items
 add-q-2 c =
-    let l = c .before .before .before .before .before .before in
+    let k = c .before in let l = k .before .before .before .before .before .before in
     omega (
       arith,
-      ap length (c .before .before .string-bytes .ensures .0),
+      ap length (k .before .before .string-bytes .ensures .0),
       string-end (now (l .before .before .args .table)) (l .items .q + 2),
     )
 
@@ -124,14 +157,10 @@ sub-left : tie.Need-sub-left Inv-loop μ-loop Inv-items μ-items
 sub-left c = search needs
 
 loop-holds : tie.Need-loop-holds Inv-loop μ-loop Inv-items μ-items
-loop-holds c =
-    let k = c .before in let l = k .before .before .before .before .before .before in
-    let s = k .before .before .string-bytes in
-    turn (now (l .before .before .args .table)) (l .items .q) (l .items .left) (l .items .kept-items) (k .kept .result) (s .result .now)
-    (omega arith) (omega arith) (s .ensures .0) (k .kept .ensures) (l .items .inv)
+loop-holds c = turned (c .before)
 
-shared-slice-read-if4 : tie.Need-shared-slice-read-if4 Inv-loop μ-loop Inv-items μ-items
-shared-slice-read-if4 c = search needs
+shared-slice-read-if6 : tie.Need-shared-slice-read-if6 Inv-loop μ-loop Inv-items μ-items
+shared-slice-read-if6 c = search needs
 
 items-less : tie.Need-items-less Inv-loop μ-loop Inv-items μ-items
 items-less c = search needs
@@ -139,8 +168,8 @@ items-less c = search needs
 items-again : tie.Need-items-again Inv-loop μ-loop Inv-items μ-items
 items-again c =
     let l = c .before .before .before in
-    let a = l .before .before .before .before .before .before .before .before .before .before .args in
-    same-left _ (search-found (now (a .table)) (l .loop .q) _ (omega arith) (c .if4 .taken)) (l .loop .inv)
+    let a = l .before .before .before .before .before .before .before .before .before .before .before .args in
+    same-left _ (search-found (now (a .table)) (l .loop .q) _ (omega arith) (c .if6 .taken)) (l .loop .inv)
 
 add-q-3 : tie.Need-add-q-3 Inv-loop μ-loop Inv-items μ-items
 add-q-3 c = search needs
@@ -151,8 +180,8 @@ loop-less c = search needs
 loop-again : tie.Need-loop-again Inv-loop μ-loop Inv-items μ-items
 loop-again c =
     let l = c .before .before .before in
-    let a = l .before .before .before .before .before .before .before .before .before .before .args in
-    same-left _ (search-more (now (a .table)) (l .loop .q) _ (omega arith) (c .if4 .left)) (l .loop .inv)
+    let a = l .before .before .before .before .before .before .before .before .before .before .before .args in
+    same-left _ (search-more (now (a .table)) (l .loop .q) _ (omega arith) (c .if6 .left)) (l .loop .inv)
 
 returns : tie.Need-returns Inv-loop μ-loop Inv-items μ-items
 returns c = all-kept _ (none-left _ _ _ (omega arith)) (c .before .items .inv)
@@ -164,12 +193,7 @@ returns-3 : tie.Need-returns-3 Inv-loop μ-loop Inv-items μ-items
 returns-3 c = all-kept _ (items-short _ _ _ (omega arith)) (c .before .before .before .items .inv)
 
 returns-4 : tie.Need-returns-4 Inv-loop μ-loop Inv-items μ-items
-returns-4 c =
-    let k = c .before in let l = k .before .before .before .before .before .before in
-    let s = k .before .before .string-bytes in
-    all-kept _ (search-none _ _ _ (c .if3 .taken))
-    (turn (now (l .before .before .args .table)) (l .items .q) (l .items .left) (l .items .kept-items) (k .kept .result) (s .result .now)
-    (omega arith) (omega arith) (s .ensures .0) (k .kept .ensures) (l .items .inv))
+returns-4 c = all-kept _ (search-none _ _ _ (c .if5 .taken)) (turned (c .before))
 
 returns-5 : tie.Need-returns-5 Inv-loop μ-loop Inv-items μ-items
 returns-5 c = all-kept _ (search-end _ _ _ (omega arith)) (c .before .loop .inv)
@@ -186,15 +210,17 @@ items-kept-spec =
     sub-if2
     add-string-bytes
     string-bytes-requires
-    shared-slice-read-kept
-    add-kept
-    cast-kept
-    kept-requires
+    shared-slice-read-item-index
+    item-index-requires
+    add-t19
+    cast-t20
+    mul-places
+    array-set-from-places
     add-q
     add-q-2
     sub-left
     loop-holds
-    shared-slice-read-if4
+    shared-slice-read-if6
     items-less
     items-again
     add-q-3

@@ -1,48 +1,20 @@
--- `text::decode::decode` meets its contract: an absent text, one of a set that is not held, and Latin-1 are the cases of the
--- definition. Assumes nothing.
+-- `text::decode::decode` meets its contract: it looks whether the bytes are ASCII, and hands them on. Assumes nothing.
 use mathlib.Core.Path.{sym, _∙_}
-use native.Mathlib.Omega.{arith}
-use denote.Ref.{now}
-use lib.ListN.{length}
 use borrow.Author.Needs.{needs}
-use Rattle.text.specs.CharsetLaws.{latin1-unmapped, not-latin1-mapped}
-use Rattle.text.specs.Decode.{refusing, giving}
-use Rattle.text.specs.DecodeLaws.{points-mapped, points-latin1, decode-refused, into-refused, decode-gives, into-gives, decode-absent, into-absent}
-use Rattle.text.specs.Refusal.{setNotHeld}
 use Rattle.text.proofs.decode.decode.Statement.{statement}
 use Rattle.text.proofs.decode.decode.Tie as tie
 
-returns : tie.Need-returns
-unfolding giving
-returns c =
-    let a = c .before .before .before .args in let bytes = now (a .bytes) in let page = now (a .page) in
-    (sym (decode-absent bytes (a .code) (c .if1 .taken) (length page)), sym (into-absent bytes (a .code) (c .if1 .taken) page))
+is-ascii-requires : tie.Need-is-ascii-requires
+is-ascii-requires c κs = search needs
 
-charset-requires : tie.Need-charset-requires
-charset-requires c κs = search needs
-
-returns-2 : tie.Need-returns-2
-unfolding refusing
-returns-2 c =
-    let a = c .before .before .before .before .before .args in let bytes = now (a .bytes) in let page = now (a .page) in
-    let e = c .before .charset .ensures in let nonempty = c .before .before .if1 .left in
-    let is = points-mapped bytes (a .code) (omega arith) (not-latin1-mapped (a .code) (λ z. c .if2 .taken (e ∙ z))) in
-    (sym (decode-refused bytes (a .code) setNotHeld is (length page)), sym (into-refused bytes (a .code) setNotHeld is page))
-
-decode-latin1-requires : tie.Need-decode-latin1-requires
-decode-latin1-requires c κs = search needs
+decode-known-requires : tie.Need-decode-known-requires
+decode-known-requires c κs = λ e. sym (c .before .is-ascii .ensures) ∙ e
 
 same-length : tie.Need-same-length
 same-length c = search needs
 
-returns-3 : tie.Need-returns-3
-returns-3 c =
-    let k = c .before .before .before .before in let a = k .before .before .before .before .before .args in let bytes = now (a .bytes) in let page = now (a .page) in
-    let is = points-latin1 bytes (a .code) (latin1-unmapped (a .code) (sym (k .before .charset .ensures) ∙ k .if2 .left)) in
-    let d = c .before .before .decode-latin1 .ensures in
-    (d .0 ∙ sym (decode-gives bytes (a .code) bytes is (length page)), d .1 ∙ sym (into-gives bytes (a .code) bytes is page))
+returns : tie.Need-returns
+returns c = search needs
 
 pub decode-spec : {M : Type 1} → statement M
-decode-spec =
-    tie.close
-    (tie.spec returns charset-requires returns-2 decode-latin1-requires same-length returns-3)
+decode-spec = tie.close (tie.spec is-ascii-requires decode-known-requires same-length returns)
