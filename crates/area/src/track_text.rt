@@ -47,22 +47,18 @@ fn items_kept(table: &[u8], place: usize, count: u8) -> ItemsKept
     let mut q = place;
     let mut left = count;
     'items: while 0 < left {
-        if table.len() < 2 {
+        if table.len() < 2 || table.len() - 2 < q {
             break;
         }
-        if table.len() - 2 < q {
-            break;
-        }
-        let len = string_bytes(table, q + 2).len();
+        let at = q + 2;
+        let len = string_bytes(table, at).len();
         let index = item_index(table[q]);
         if (0 < len) & (index < TRACK_TEXTS) {
-            places[index] = TextPlace {
-                place: (q + 2) as u32,
-            };
+            places[index] = TextPlace { place: at as u32 };
         } else if 0 < len {
             unknown = true;
         }
-        q = q + 2 + len;
+        q = at + len;
         left -= 1;
         if left == 0 {
             break;

@@ -10,7 +10,7 @@ use denote.Ref.{now}
 use lib.Dec.{ltb}
 use lib.ListN.{length, getD}
 use borrow.Author.Needs.{needs}
-use borrow.Author.Tests.{lt-ltb, le-ltb}
+use borrow.Author.Tests.{lt-ltb, le-ltb, ltb-true, ltb-false}
 use Rattle.sectors.specs.NumberLaws.{be-byte}
 use Rattle.text.specs.String.{stringAt}
 use Rattle.text.specs.StringLaws.{string-end}
@@ -73,11 +73,11 @@ module _ {all : ItemsKept} where
       ∙ leads
 
 abbrev Inv-loop : tie.InvT-loop
-Inv-loop table place count places unknown q₀ left len index q =
+Inv-loop table place count places unknown q₀ left at len index q =
     keepAll (searched table q left) (record { places = places; unknown = unknown }) ≡ itemsKept table place count
 
 abbrev μ-loop : tie.MeasureT-loop
-μ-loop table place count places unknown q₀ left len index q = length table - q
+μ-loop table place count places unknown q₀ left at len index q = length table - q
 
 abbrev Inv-items : tie.InvT-items
 Inv-items table place count places₀ unknown₀ q₀ left₀ places unknown q left =
@@ -108,7 +108,8 @@ turned c =
     ∙ keep-unknown item before (k .item-index .ensures) (w .0 .left) (w .1 .taken))
     (λ w. (λ i. record { places = w .2 i; unknown = w .3 i }) ∙ keep-empty item before (w .1 .left)))
     (c .if3 .came) in
-    turn table (l .items .q) (l .items .left) before _ (s .result .now) (omega arith) (omega arith) (s .ensures .0) kept (l .items .inv)
+    turn table (l .items .q) (l .items .left) before _ (s .result .now) (omega (arith, ltb-false)) (omega arith) (s .ensures .0) kept
+    (l .items .inv)
 
 items-holds : tie.Need-items-holds Inv-loop μ-loop Inv-items μ-items
 unfolding itemsKept noItems noPlaces
@@ -117,23 +118,20 @@ items-holds c = refl
 sub-if2 : tie.Need-sub-if2 Inv-loop μ-loop Inv-items μ-items
 sub-if2 c = search needs
 
-add-string-bytes : tie.Need-add-string-bytes Inv-loop μ-loop Inv-items μ-items
-add-string-bytes c = search needs
+add-at : tie.Need-add-at Inv-loop μ-loop Inv-items μ-items
+add-at c = omega (arith, ltb-false)
 
 string-bytes-requires : tie.Need-string-bytes-requires Inv-loop μ-loop Inv-items μ-items
 string-bytes-requires c κs = search needs
 
 shared-slice-read-item-index : tie.Need-shared-slice-read-item-index Inv-loop μ-loop Inv-items μ-items
-shared-slice-read-item-index c = search needs
+shared-slice-read-item-index c = omega (arith, ltb-false)
 
 item-index-requires : tie.Need-item-index-requires Inv-loop μ-loop Inv-items μ-items
 item-index-requires c κs = search needs
 
-add-t19 : tie.Need-add-t19 Inv-loop μ-loop Inv-items μ-items
-add-t19 c = search needs
-
-cast-t20 : tie.Need-cast-t20 Inv-loop μ-loop Inv-items μ-items
-cast-t20 c = search needs
+cast-t23 : tie.Need-cast-t23 Inv-loop μ-loop Inv-items μ-items
+cast-t23 c = omega (arith, ltb-false)
 
 mul-places : tie.Need-mul-places Inv-loop μ-loop Inv-items μ-items
 mul-places c = let h = of-known-type c in search needs
@@ -142,13 +140,11 @@ array-set-from-places : tie.Need-array-set-from-places Inv-loop μ-loop Inv-item
 array-set-from-places c = of-known-type c
 
 add-q : tie.Need-add-q Inv-loop μ-loop Inv-items μ-items
-add-q c = search needs
-
-add-q-2 : tie.Need-add-q-2 Inv-loop μ-loop Inv-items μ-items
-add-q-2 c =
+add-q c =
     let k = c .before in let l = k .before .before .before .before .before .before in
     omega (
       arith,
+      ltb-false,
       ap length (k .before .before .string-bytes .ensures .0),
       string-end (now (l .before .before .args .table)) (l .items .q + 2),
     )
@@ -171,8 +167,8 @@ items-again c =
     let a = l .before .before .before .before .before .before .before .before .before .before .before .args in
     same-left _ (search-found (now (a .table)) (l .loop .q) _ (omega arith) (c .if6 .taken)) (l .loop .inv)
 
-add-q-3 : tie.Need-add-q-3 Inv-loop μ-loop Inv-items μ-items
-add-q-3 c = search needs
+add-q-2 : tie.Need-add-q-2 Inv-loop μ-loop Inv-items μ-items
+add-q-2 c = search needs
 
 loop-less : tie.Need-loop-less Inv-loop μ-loop Inv-items μ-items
 loop-less c = search needs
@@ -187,16 +183,17 @@ returns : tie.Need-returns Inv-loop μ-loop Inv-items μ-items
 returns c = all-kept _ (none-left _ _ _ (omega arith)) (c .before .items .inv)
 
 returns-2 : tie.Need-returns-2 Inv-loop μ-loop Inv-items μ-items
-returns-2 c = all-kept _ (items-short _ _ _ (omega arith)) (c .before .before .items .inv)
+returns-2 c =
+    let l = c .before .before in
+    let short : length (now (l .before .before .args .table)) < l .items .q + 2 =
+    ⊎-elim (λ w. omega arith) (λ w. omega (arith, ltb-true)) (c .if1 .came) in
+    all-kept _ (items-short _ _ _ short) (l .items .inv)
 
 returns-3 : tie.Need-returns-3 Inv-loop μ-loop Inv-items μ-items
-returns-3 c = all-kept _ (items-short _ _ _ (omega arith)) (c .before .before .before .items .inv)
+returns-3 c = all-kept _ (search-none _ _ _ (c .if5 .taken)) (turned (c .before))
 
 returns-4 : tie.Need-returns-4 Inv-loop μ-loop Inv-items μ-items
-returns-4 c = all-kept _ (search-none _ _ _ (c .if5 .taken)) (turned (c .before))
-
-returns-5 : tie.Need-returns-5 Inv-loop μ-loop Inv-items μ-items
-returns-5 c = all-kept _ (search-end _ _ _ (omega arith)) (c .before .loop .inv)
+returns-4 c = all-kept _ (search-end _ _ _ (omega arith)) (c .before .loop .inv)
 
 pub items-kept-spec : {M : Type 1} → statement M
 items-kept-spec =
@@ -208,26 +205,23 @@ items-kept-spec =
     μ-items
     items-holds
     sub-if2
-    add-string-bytes
+    add-at
     string-bytes-requires
     shared-slice-read-item-index
     item-index-requires
-    add-t19
-    cast-t20
+    cast-t23
     mul-places
     array-set-from-places
     add-q
-    add-q-2
     sub-left
     loop-holds
     shared-slice-read-if6
     items-less
     items-again
-    add-q-3
+    add-q-2
     loop-less
     loop-again
     returns
     returns-2
     returns-3
-    returns-4
-    returns-5)
+    returns-4)
