@@ -243,7 +243,7 @@ pub(crate) fn text_place(track: Track, item: u32) -> u32
 }
 
 // The zero record, which stands past the end of a list of tracks.
-pub(crate) fn no_track() -> Track
+pub fn no_track() -> Track
     ensures { λ r. ⌜ r ≡ noTrack ⌝ }
 {
     Track {

@@ -2,7 +2,6 @@
 // the run's name.
 mod image;
 mod print;
-mod reading;
 
 use image::IMAGE_BYTES;
 use image::MASTER_END;

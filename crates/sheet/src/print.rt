@@ -1,8 +1,6 @@
 // What is read of a disc image, written to standard output.
 ghost use mathlib.Core.Path.{_≡_};
 ghost use lib.ListN.{length};
-use crate::reading::blank;
-use crate::reading::read;
 use area::area::Area;
 use area::table::MAX_TRACKS;
 use area::track::Track;
@@ -10,6 +8,8 @@ use disc::answer::DiscAnswer;
 use disc::regions::TRACK_RECORDS;
 use disc::regions::WARNING_WORDS;
 use disc::regions::WORK_BYTES;
+use disc_values::reading::no_tracks;
+use disc_values::reading::read_disc_by_value;
 use libc::STDOUT_FILENO;
 
 // The image's format: sectors of 2,048 bytes, all data.
@@ -110,7 +110,7 @@ fn blank_work() -> [u8; WORK_BYTES]
 pub(crate) fn print_reading(image: &[u8]) {
     let mut work = blank_work();
     let mut words = [0u32; WARNING_WORDS];
-    let reading = read(PLAIN, image, &mut work, blank(), &mut words);
+    let reading = read_disc_by_value(PLAIN, image, &mut work, no_tracks(), &mut words);
     let answer = reading.answer;
     let tracks = reading.tracks;
     print_answer(image.len(), answer);

@@ -6,7 +6,6 @@ ghost use mathlib.Core.Path.{_≡_};
 ghost use lib.ListN.{length};
 
 mod numbers;
-mod reading;
 mod records;
 mod texts;
 
@@ -15,8 +14,6 @@ use crate::numbers::put_u8;
 use crate::numbers::put_u32;
 use crate::numbers::put_u64;
 use crate::numbers::put_usize;
-use crate::reading::blank;
-use crate::reading::read;
 use crate::records::put_area;
 use crate::records::put_master;
 use crate::records::put_track;
@@ -30,6 +27,8 @@ use disc::answer::DiscAnswer;
 use disc::regions::TRACK_RECORDS;
 use disc::regions::WARNING_WORDS;
 use disc::regions::WORK_BYTES;
+use disc_values::reading::no_tracks;
+use disc_values::reading::read_disc_by_value;
 use libc::STDIN_FILENO;
 use libc::STDOUT_FILENO;
 use sectors::fnv::digest;
@@ -166,7 +165,7 @@ fn unread() -> [u8; WORK_BYTES]
 fn put_disc(name: &[u8], format: u32, image: &[u8]) {
     let mut work = unread();
     let mut words = [0u32; WARNING_WORDS];
-    let reading = read(format, image, &mut work, blank(), &mut words);
+    let reading = read_disc_by_value(format, image, &mut work, no_tracks(), &mut words);
     let answer = reading.answer;
     let tracks = reading.tracks;
     put_head(name, answer);

@@ -4,7 +4,6 @@ use crate::numbers::put_u8;
 use crate::numbers::put_u32;
 use crate::numbers::put_u64;
 use crate::numbers::put_usize;
-use crate::reading::decode_track_text;
 use area::area::Area;
 use area::bytes::part_of;
 use area::text_places::AREA_TEXTS;
@@ -15,6 +14,7 @@ use disc::decode::decode_disc_text;
 use disc::master::DISC_TEXTS;
 use disc::master::MasterToc;
 use disc::regions::TRACK_RECORDS;
+use disc_values::reading::decode_track_text_by_value;
 use libc::STDOUT_FILENO;
 use sectors::fnv::digest;
 use text::decode::DecodeAnswer;
@@ -49,7 +49,7 @@ fn put_area_text(work: &[u8], area: Area, item: u32) {
 
 fn put_track_text(work: &[u8], area: Area, tracks: [Track; TRACK_RECORDS], number: u32, item: u32) {
     let mut page = [0u8; TEXT_PAGE];
-    let answer = decode_track_text(work, area, tracks, number, item, &mut page);
+    let answer = decode_track_text_by_value(work, area, tracks, number, item, &mut page);
     put_text(item, answer, &page);
 }
 

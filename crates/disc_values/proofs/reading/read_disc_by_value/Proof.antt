@@ -1,5 +1,6 @@
--- `read` is safe and ends: a walk of its MIR. The list stands in a local, which is lent for the call and taken back. Work and words go to `read_disc` at
--- their own lifetimes, since they are not needed after the call. The answer's type, relation and laws are shut. Assumes nothing.
+-- `read_disc_by_value` meets its contract: a walk of its MIR. The list stands in a local, which is lent for the call and taken back; what it then holds is the
+-- reading's list. Work and words go to `read_disc` at their own lifetimes, since they are not needed after the call. The answer's type, relation and laws are
+-- shut. Assumes nothing.
 use mathlib.Core.Path.{_≡_, refl, sym, _∙_, subst}
 use Prim.Native.Nat.{ℕ, _<_, _^_}
 use mathlib.Core.List.{List, [], _∷_, map}
@@ -42,7 +43,7 @@ use denote.Triple.Entry.{onEntry}
 use denote.Triple.Clauses.{ensured, lasts}
 use denote.Triple.Spec.{Meets, tripleOf}
 use denote.Triple.Table.{entered, cited}
-use denote.Triple.Walked.{Stays, stay-none, stay-none-slice, gave-slice, walkOf, goes-none, goes-none-slice, goes-gave-slice, Walks, ends-at, walked, walk-meets}
+use denote.Triple.Walked.{says, Stays, stay-none, stay-none-slice, gave-slice, walkOf, goes-none, goes-none-slice, goes-gave-slice, Walks, ends-at, walked, walk-meets}
 use denote.Exit.{yes}
 use Rattle.area.specs.declared.track.Track.{Track}
 use Rattle.area.proofs.track.Track as T
@@ -55,15 +56,15 @@ use Rattle.disc.proofs.disc.read_disc as callee
 use Rattle.disc.proofs.disc.read_disc.Symbol as callee-def
 use Rattle.disc.proofs.disc.read_disc.Symbol.{name as #disc·read-disc}
 use Rattle.disc.proofs.disc.read_disc.Met as callee-thm
-use Rattle.sheet.specs.declared.reading.Reading.{Reading}
-use Rattle.sheet.proofs.reading.Reading as Rd
-use Rattle.sheet.proofs.reading.Reading.Laws as Rd′
-use Rattle.sheet.proofs.LocalArray.{elements, lies-in, Cell, lies-out, lendable, regained, says-nothing}
-use Rattle.sheet.proofs.TrackList.{R, TrackList, room, list-vals, list-val, list-tells, list-typed, list-makes}
-use Rattle.sheet.proofs.reading.read.Key.{name as #sheet·read}
-use Rattle.sheet.proofs.reading.read as this
-use Rattle.sheet.proofs.reading.read.Statement as stated
-use Rattle.sheet.proofs.reading.read.Code as code
+use Rattle.disc_values.specs.declared.reading.Reading.{Reading}
+use Rattle.disc_values.proofs.reading.Reading as Rd
+use Rattle.disc_values.proofs.reading.Reading.Laws as Rd′
+use Rattle.disc_values.proofs.LocalArray.{elements, lies-in, Cell, lies-out, lendable, regained}
+use Rattle.disc_values.proofs.TrackList.{R, TrackList, room, list-vals, list-val, list-tells, list-typed, list-makes}
+use Rattle.disc_values.proofs.reading.read_disc_by_value.Key.{name as #disc-values·read-disc}
+use Rattle.disc_values.proofs.reading.read_disc_by_value as this
+use Rattle.disc_values.proofs.reading.read_disc_by_value.Statement as stated
+use Rattle.disc_values.proofs.reading.read_disc_by_value.Code as code
 
 abbrev stayed : Stays (this.ended .signature .params) (this.ended .kept)
 stayed = (stay-none (λ _. u32) yes, (stay-none-slice (0 ∷ []) tt (plain (λ _. u8)) yes, (gave-slice (1 ∷ []) tt (plain (λ _. u8)), (stay-none (λ _. TrackList) yes, (gave-slice (2 ∷ []) tt (plain (λ _. u32)), tt)))))
@@ -135,12 +136,19 @@ module _ {M : Type 1} (𝓤 : URA M) (H : Heap 𝓤) (A : Atoms 𝓤) (W : Given
   Post : Val → SProp 𝓤
   Post = walkOf 𝓤 H A this.ended stayed (this.clauses 𝓤 H A memory run) .post (((κ₀, (κ₁, (κ₂, tt))), (q₀, (q₁, (q₂, tt))), tt, a, at), tt)
 
-  exits : (r : Reading) (u : Val) (zw zd : List ℕ) → IsReading r (u ∷ []) → length zw ≡ length (work .now) → length zd ≡ length (words .now)
+  -- what both contracts say of the answer and of the three lists at exit: they are those of an outcome
+  abbrev outcome : Outcome
+  outcome = readDisc format (image .now) (record { work = work .now; tracks = xs; words = words .now })
+
+  abbrev Said : DiscAnswer → List ℕ → List Track → List ℕ → Type 0
+  Said r zw zt zd = (r ≡ outcome .answer) × ((zw ≡ outcome .memory .work) × ((zt ≡ outcome .memory .tracks) × (zd ≡ outcome .memory .words)))
+
+  exits : (r : Reading) (u : Val) (zw zd : List ℕ) → IsReading r (u ∷ []) → Said (r .answer) zw (r .tracks) zd → length zw ≡ length (work .now) → length zd ≡ length (words .now)
       → ent 𝓤 (⋆ 𝓤 H A (‵ (flft κ₀ q₀) ∷ ‵ (flft κ₁ q₁) ∷ ‵ (flft κ₂ q₂) ∷ ‵ Image ∷ ‵ (finally u8 (work .name) zw) ∷ ‵ (finally u32 (words .name) zd) ∷ [])) (Post u)
   unfolding Post
-  exits r u zw zd is lw ld =
+  exits r u zw zd is said lw ld =
       qed W (‵ (flft κ₀ q₀) ∷ ‵ (flft κ₁ q₁) ∷ ‵ (flft κ₂ q₂) ∷ ‵ Image ∷ ‵ (finally u8 (work .name) zw) ∷ ‵ (finally u32 (words .name) zd) ∷ []) ∵
-      suffices ! _ (ends-at 𝓤 H A this.ended stayed (this.clauses 𝓤 H A memory run) W (((κ₀, (κ₁, (κ₂, tt))), (q₀, (q₁, (q₂, tt))), tt, a, at), tt) u r (tt, (tt, (zw, (tt, (zd, tt))))) (tt, (tt, (lw, (tt, (ld, tt)))))) $ says-nothing ! $
+      suffices ! _ (ends-at 𝓤 H A this.ended stayed (this.clauses 𝓤 H A memory run) W (((κ₀, (κ₁, (κ₂, tt))), (q₀, (q₁, (q₂, tt))), tt, a, at), tt) u r (tt, (tt, (zw, (tt, (zd, tt))))) (tt, (tt, (lw, (tt, (ld, tt)))))) $ says ! said $
       nothing ! $ move ! (3 ∷ 0 ∷ []) $ join ! $ move ! (2 ∷ 0 ∷ []) $ join ! $ move ! (1 ∷ 0 ∷ []) $ join ! $ frame ! $
       nothing ! $ move ! (3 ∷ 0 ∷ []) $ fjoin ! $ owned ! TrackList (Is TrackList) (list-makes 𝓤 H A W) xs _ xs-is $ fjoin ! $ move ! (2 ∷ 0 ∷ []) $ fjoin ! $ move ! (1 ∷ 0 ∷ []) $ fjoin ! $
       owned ! u32 (Is u32) (uint-makes 𝓤 H A W w32) format _ (refl, format-fits) $ fjoin ! $ frame ! $ owned ! Rd.the-row IsReading (reading-makes 𝓤 H A) r _ is $ done !
@@ -169,15 +177,8 @@ module _ {M : Type 1} (𝓤 : URA M) (H : Heap 𝓤) (A : Atoms 𝓤) (W : Given
 
     -- what is had after it, at the machine value u: the answer, and the last lists of work, tracks and words
     abbrev Got : Val → DiscAnswer × (List ℕ × (List Track × List ℕ)) → Item 𝓤
-    Got u z = given (IsAnswer (z .0) (u ∷ []) × ((length (z .1 .0) ≡ length (work .now)) × (length (z .1 .1 .1) ≡ length (words .now))))
+    Got u z = given (IsAnswer (z .0) (u ∷ []) × (Said (z .0) (z .1 .0) (z .1 .1 .0) (z .1 .1 .1) × ((length (z .1 .0) ≡ length (work .now)) × (length (z .1 .1 .1) ≡ length (words .now)))))
         (‵ (flft κ₀ q₀) ⊛ ‵ (flft κ₁ q₁) ⊛ ‵ (flft (α ∷ []) fullShare) ⊛ ‵ (flft κ₂ q₂) ⊛ ‵ (finally u8 (work .name) (z .1 .0)) ⊛ ‵ (finally R γ (z .1 .1 .0)) ⊛ ‵ (finally u32 (words .name) (z .1 .1 .1)))
-
-    -- what the contract says of them
-    abbrev outcome : Outcome
-    outcome = readDisc format (image .now) (record { work = work .now; tracks = xs; words = words .now })
-
-    abbrev Said : DiscAnswer → List ℕ → List Track → List ℕ → Type 0
-    Said r zw zt zd = (r ≡ outcome .answer) × ((zw ≡ outcome .memory .work) × ((zt ≡ outcome .memory .tracks) × (zd ≡ outcome .memory .words)))
 
     gives : (u : Val) → ent 𝓤 (Reads 𝓤 H A memory run .post passed u) (mean 𝓤 H A (later (some (Got u))))
     gives u =
@@ -189,7 +190,7 @@ module _ {M : Type 1} (𝓤 : URA M) (H : Heap 𝓤) (A : Atoms 𝓤) (W : Given
         -- [the words' last list; …; those of tracks and of work; …; …; the tokens and the answer]
         move ! (6 ∷ []) $ split ! $ move ! (1 ∷ []) $ peeks ! Ans.the-row IsAnswer (answer-shows 𝓤 H A) r (u ∷ []) (λ is.
         move ! (1 ∷ []) $ split ! $ move ! (1 ∷ []) $ split ! $ move ! (1 ∷ []) $ split ! $ move ! (1 ∷ []) $ split ! $ keep ! (4 ∷ 3 ∷ 2 ∷ 0 ∷ 9 ∷ 8 ∷ 6 ∷ []) $
-        at-once ! $ show ! (λ (z : DiscAnswer × (List ℕ × (List Track × List ℕ))). mean 𝓤 H A (Got u z)) (r, (zs .1 .1 .0, (zs .1 .1 .1 .0, zs .1 .1 .1 .1 .0))) $ check ! (is, (lw, ld)) $ done !)))))))
+        at-once ! $ show ! (λ (z : DiscAnswer × (List ℕ × (List Track × List ℕ))). mean 𝓤 H A (Got u z)) (r, (zs .1 .1 .0, (zs .1 .1 .1 .0, zs .1 .1 .1 .1 .0))) $ check ! (is, (e, (lw, ld))) $ done !)))))))
 
   -- the MIR
   walk : (𝓣 : Tables 𝓤 H) → Triple 𝓤 (𝓣 .C #disc·read-disc) (Reads 𝓤 H A memory run)
@@ -234,7 +235,7 @@ module _ {M : Type 1} (𝓤 : URA M) (H : Heap 𝓤) (A : Atoms 𝓤) (W : Given
       returns ! (look ! 34 refl) $ forget ! 6 refl $ forget ! 7 refl $ forget ! 9 refl $ forget ! 11 refl $ forget ! 13 refl $ forget ! 15 refl $ forget ! 17 refl $ forget ! 19 refl $ forget ! 21 refl $ forget ! 24 refl $ forget ! 26 refl $ forget ! 28 refl $ forget ! 30 refl $ forget ! 32 refl $ forget ! 34 refl $
       move ! (34 ∷ 35 ∷ []) $ free1 ! $ move ! (32 ∷ 33 ∷ []) $ free1 ! $ move ! (30 ∷ 31 ∷ []) $ free1 ! $ move ! (28 ∷ 29 ∷ []) $ free1 ! $ move ! (26 ∷ 27 ∷ []) $ free1 ! $ move ! (24 ∷ 25 ∷ []) $ free1 ! $ move ! (6 ∷ 23 ∷ []) $ free1 ! $
       move ! (20 ∷ 21 ∷ []) $ free1 ! $ move ! (18 ∷ 19 ∷ []) $ free1 ! $ move ! (16 ∷ 17 ∷ []) $ free1 ! $ move ! (14 ∷ 15 ∷ []) $ free1 ! $ move ! (12 ∷ 13 ∷ []) $ free1 ! $ move ! (10 ∷ 11 ∷ []) $ free1 ! $ move ! (8 ∷ 9 ∷ []) $ free1 ! $ move ! (6 ∷ 7 ∷ []) $ free1 ! $ free0 ! $
-      by ! (exits (record { answer = z .0; tracks = z .1 .1 .0 }) (vstruct (vcons u (vcons v vnil))) (z .1 .0) (z .1 .1 .1) (reading-is (z .0) (z .1 .1 .0) u v (e .0) is) (e .1 .0) (e .1 .1))))))))))))))))))))))))
+      by ! (exits (record { answer = z .0; tracks = z .1 .1 .0 }) (vstruct (vcons u (vcons v vnil))) (z .1 .0) (z .1 .1 .1) (reading-is (z .0) (z .1 .1 .0) u v (e .0) is) (e .1 .0) (e .1 .1 .0) (e .1 .1 .1))))))))))))))))))))))))
     where
       fm : FmC 𝓤 H (W .laws) (𝓣 .C)
       fm = fmOf 𝓤 H (W .laws) 𝓣
@@ -243,26 +244,26 @@ module _ {M : Type 1} (𝓤 : URA M) (H : Heap 𝓤) (A : Atoms 𝓤) (W : Given
       long = xs-is .1 .0 .1
 
 module _ {M : Type 1} (𝓤 : URA M) (H : Heap 𝓤) (A : Atoms 𝓤) (W : Given 𝓤 H A) (mem : Memory → SProp 𝓤) (run : Routine → Fun 𝓤) where
-  read-walks : (𝓣 : Tables 𝓤 H) → Triple 𝓤 (𝓣 .C #disc·read-disc) (Reads 𝓤 H A mem run) → Walks 𝓤 H A this.ended stayed (WpFn 𝓤 H (𝓣 .C) (𝓣 .Λ) code.function) (this.clauses 𝓤 H A mem run)
+  read-disc-by-value-walks : (𝓣 : Tables 𝓤 H) → Triple 𝓤 (𝓣 .C #disc·read-disc) (Reads 𝓤 H A mem run) → Walks 𝓤 H A this.ended stayed (WpFn 𝓤 H (𝓣 .C) (𝓣 .Λ) code.function) (this.clauses 𝓤 H A mem run)
   unfolding Post
-  read-walks 𝓣 known = walked 𝓤 H A this.ended stayed (this.clauses 𝓤 H A mem run) (WpFn 𝓤 H (𝓣 .C) (𝓣 .Λ) code.function)
+  read-disc-by-value-walks 𝓣 known = walked 𝓤 H A this.ended stayed (this.clauses 𝓤 H A mem run) (WpFn 𝓤 H (𝓣 .C) (𝓣 .Λ) code.function)
       (λ κs. (uint-vals w32, (slice-vals, (slice-vals, (list-vals, (slice-vals, tt))))))
       (λ κs. (uint-tells w32, (shr-slice-tells (named 0) (κs .0) u8, (mut-slice-tells (named 1) (κs .1 .0) u8, (list-tells, (mut-slice-tells (named 2) (κs .1 .1 .0) u32, tt))))))
       (λ κs qs bounds a g are. via 𝓤 _ (fst∗ 𝓤 _ (emp 𝓤))
       (walk 𝓤 H A W mem run (κs .0) (κs .1 .0) (κs .1 .1 .0) (qs .0) (qs .1 .0) (qs .1 .1 .0) (a .0) (a .1 .0) (a .1 .1 .0) (a .1 .1 .1 .0) (a .1 .1 .1 .1 .0)
       (are .0 .1) (are .1 .0 .0 .1) (are .1 .1 .0 .0 .1) (are .1 .1 .1 .0) (are .1 .1 .1 .1 .0 .0 .1) 𝓣 known))
 
-read-meets : {M : Type 1} (𝓤 : URA M) (H : Heap 𝓤) (A : Atoms 𝓤) → Given 𝓤 H A → (mem : Memory → SProp 𝓤) (run : Routine → Fun 𝓤) (𝓣 : Tables 𝓤 H) → Triple 𝓤 (𝓣 .C #disc·read-disc) (Reads 𝓤 H A mem run)
+read-disc-by-value-meets : {M : Type 1} (𝓤 : URA M) (H : Heap 𝓤) (A : Atoms 𝓤) → Given 𝓤 H A → (mem : Memory → SProp 𝓤) (run : Routine → Fun 𝓤) (𝓣 : Tables 𝓤 H) → Triple 𝓤 (𝓣 .C #disc·read-disc) (Reads 𝓤 H A mem run)
     → Meets 𝓤 H A this.signature (WpFn 𝓤 H (𝓣 .C) (𝓣 .Λ) code.function) (this.spec 𝓤 H A mem run)
-read-meets 𝓤 H A W mem run 𝓣 known =
+read-disc-by-value-meets 𝓤 H A W mem run 𝓣 known =
     walk-meets 𝓤 H A this.ended stayed W
     (goes-none 𝓤 H A W 3 (λ _. u32) yes (λ κs x f. refl), (goes-none-slice 𝓤 H A W 3 (0 ∷ []) tt (plain (λ _. u8)) yes, (goes-gave-slice 𝓤 H A W 3 1 tt (plain (λ _. u8)), (goes-none 𝓤 H A W 3 (λ _. TrackList) yes (λ κs x f. refl), (goes-gave-slice 𝓤 H A W 3 2 tt (plain (λ _. u32)), tt)))))
-    (this.clauses 𝓤 H A mem run) (WpFn 𝓤 H (𝓣 .C) (𝓣 .Λ) code.function) (WpFn-mono 𝓤 H (W .laws) 𝓣 code.function) (read-walks 𝓤 H A W mem run 𝓣 known)
+    (this.clauses 𝓤 H A mem run) (WpFn 𝓤 H (𝓣 .C) (𝓣 .Λ) code.function) (WpFn-mono 𝓤 H (W .laws) 𝓣 code.function) (read-disc-by-value-walks 𝓤 H A W mem run 𝓣 known)
 
-pub read-spec : {M : Type 1} → stated.statement M
+pub read-disc-by-value-spec : {M : Type 1} → stated.statement M
 unfolding code.routine tablesOf
-read-spec 𝓤 H 𝓜 𝓖 𝓡 =
+read-disc-by-value-spec 𝓤 H 𝓜 𝓖 𝓡 =
     entered 𝓤 H (tripleOf 𝓤 H (𝓖 .A) this.signature (this.spec 𝓤 H (𝓖 .A) (𝓜 .mem) (𝓡 .run)))
-    (tables 𝓤 H 𝓜 𝓡 code.env .C) (tables 𝓤 H 𝓜 𝓡 code.env .Λ) #sheet·read code.function (code.unfolded 𝓤 H 𝓜 𝓡)
-    (read-meets 𝓤 H (𝓖 .A) (givenOf 𝓤 H 𝓜 𝓖) (𝓜 .mem) (𝓡 .run) (tablesOf 𝓤 H 𝓜 (tables 𝓤 H 𝓜 𝓡 code.env))
+    (tables 𝓤 H 𝓜 𝓡 code.env .C) (tables 𝓤 H 𝓜 𝓡 code.env .Λ) #disc-values·read-disc code.function (code.unfolded 𝓤 H 𝓜 𝓡)
+    (read-disc-by-value-meets 𝓤 H (𝓖 .A) (givenOf 𝓤 H 𝓜 𝓖) (𝓜 .mem) (𝓡 .run) (tablesOf 𝓤 H 𝓜 (tables 𝓤 H 𝓜 𝓡 code.env))
     (cited 𝓤 H (Reads 𝓤 H (𝓖 .A) (𝓜 .mem) (𝓡 .run)) 𝓜 𝓡 code.env #disc·read-disc callee-def.routine code.calls-disc·disc·read-disc (callee-thm.met 𝓤 H 𝓜 𝓖 𝓡)))

@@ -15,7 +15,7 @@ use denote.Struct.Laws as LL
 use Rattle.area.specs.declared.track.Track.{Track}
 use Rattle.area.proofs.track.Track as T
 use Rattle.area.proofs.track.Track.Laws as T′
-use Rattle.stored_discs.proofs.LocalArray.{array-ty}
+use Rattle.disc_values.proofs.LocalArray.{array-ty}
 
 -- a track's type, and a list's
 abbrev pub R : RattleType

@@ -1,5 +1,5 @@
--- `decode_track_text` is safe and ends: a walk of its MIR. The list stands in a local, which is lent for the call and taken back. The page goes to
--- `decode_disc_track_text` at its own lifetime, since it is not needed after the call. Assumes nothing.
+-- `decode_track_text_by_value` meets its contract: a walk of its MIR. The list stands in a local, which is lent for the call and taken back. The page goes
+-- to `decode_disc_track_text` at its own lifetime, since it is not needed after the call. Assumes nothing.
 use mathlib.Core.Path.{_≡_, refl, sym, subst}
 use Prim.Native.Nat.{ℕ, _<_, _^_}
 use mathlib.Core.List.{List, [], _∷_}
@@ -39,7 +39,7 @@ use denote.Triple.Entry.{onEntry}
 use denote.Triple.Clauses.{ensured, lasts}
 use denote.Triple.Spec.{Meets, tripleOf}
 use denote.Triple.Table.{entered, cited}
-use denote.Triple.Walked.{Stays, stay-none, stay-none-slice, gave-slice, walkOf, goes-none, goes-none-slice, goes-gave-slice, Walks, ends-at, walked, walk-meets}
+use denote.Triple.Walked.{says, Stays, stay-none, stay-none-slice, gave-slice, walkOf, goes-none, goes-none-slice, goes-gave-slice, Walks, ends-at, walked, walk-meets}
 use denote.Exit.{yes}
 use Rattle.text.specs.declared.decode.DecodeAnswer.{DecodeAnswer}
 use Rattle.text.proofs.decode.DecodeAnswer as D
@@ -54,12 +54,12 @@ use Rattle.disc.proofs.decode.decode_disc_track_text as callee
 use Rattle.disc.proofs.decode.decode_disc_track_text.Symbol as callee-def
 use Rattle.disc.proofs.decode.decode_disc_track_text.Symbol.{name as #disc·decode-track-text}
 use Rattle.disc.proofs.decode.decode_disc_track_text.Met as callee-thm
-use Rattle.stored_discs.proofs.LocalArray.{elements, lies-in, Cell, lies-out, says-nothing}
-use Rattle.stored_discs.proofs.TrackList.{R, TrackList, room, list-vals, list-val, list-tells, list-typed, list-makes}
-use Rattle.stored_discs.proofs.reading.decode_track_text.Key.{name as #stored-discs·decode-track-text}
-use Rattle.stored_discs.proofs.reading.decode_track_text as this
-use Rattle.stored_discs.proofs.reading.decode_track_text.Statement as stated
-use Rattle.stored_discs.proofs.reading.decode_track_text.Code as code
+use Rattle.disc_values.proofs.LocalArray.{elements, lies-in, Cell, lies-out}
+use Rattle.disc_values.proofs.TrackList.{R, TrackList, room, list-vals, list-val, list-tells, list-typed, list-makes}
+use Rattle.disc_values.proofs.reading.decode_track_text_by_value.Key.{name as #disc-values·decode-track-text}
+use Rattle.disc_values.proofs.reading.decode_track_text_by_value as this
+use Rattle.disc_values.proofs.reading.decode_track_text_by_value.Statement as stated
+use Rattle.disc_values.proofs.reading.decode_track_text_by_value.Code as code
 
 abbrev stayed : Stays (this.ended .signature .params) (this.ended .kept)
 stayed = (stay-none-slice (0 ∷ []) tt (plain (λ _. u8)) yes, (stay-none (λ _. Ar.the-row) yes, (stay-none (λ _. TrackList) yes, (stay-none (λ _. u32) yes, (stay-none (λ _. u32) yes, (gave-slice (1 ∷ []) tt (plain (λ _. u8)), tt))))))
@@ -92,12 +92,19 @@ module _ {M : Type 1} (𝓤 : URA M) (H : Heap 𝓤) (A : Atoms 𝓤) (W : Given
   abbrev Post : Val → SProp 𝓤
   Post = walkOf 𝓤 H A this.ended stayed (this.clauses 𝓤 H A mem run) .post (((κ₀, (κ₁, tt)), (q₀, (q₁, tt)), tt, a, at), tt)
 
-  exits : (d : DecodeAnswer) (w : Val) (zp : List ℕ) → Is D.the-row d (w ∷ []) → length zp ≡ length (pg .now)
+  abbrev text : Text
+  text = trackTextAt (s .now) area xs number item
+
+  -- what both contracts say of the result and of the page at exit
+  abbrev Said : DecodeAnswer → List ℕ → Type 0
+  Said d zp = (d ≡ textAnswer text (length (pg .now))) × (zp ≡ textPage text (pg .now))
+
+  exits : (d : DecodeAnswer) (w : Val) (zp : List ℕ) → Is D.the-row d (w ∷ []) → Said d zp → length zp ≡ length (pg .now)
       → ent 𝓤 (⋆ 𝓤 H A (‵ (flft κ₀ q₀) ∷ ‵ (flft κ₁ q₁) ∷ ‵ Work ∷ ‵ (finally u8 (pg .name) zp) ∷ [])) (Post w)
-  exits d w zp is l =
+  exits d w zp is said l =
       qed W (‵ (flft κ₀ q₀) ∷ ‵ (flft κ₁ q₁) ∷ ‵ Work ∷ ‵ (finally u8 (pg .name) zp) ∷ []) ∵
       suffices ! _ (ends-at 𝓤 H A this.ended stayed (this.clauses 𝓤 H A mem run) W (((κ₀, (κ₁, tt)), (q₀, (q₁, tt)), tt, a, at), tt) w d (tt, (tt, (tt, (tt, (tt, (zp, tt)))))) (tt, (tt, (tt, (tt, (tt, (l, tt))))))) $
-      says-nothing ! $
+      says ! said $
       nothing ! $ move ! (2 ∷ 0 ∷ []) $ join ! $ move ! (1 ∷ 0 ∷ []) $ join ! $ frame ! $
       nothing ! $ move ! (2 ∷ 0 ∷ []) $ fjoin ! $ owned ! u32 (Is u32) (uint-makes 𝓤 H A W w32) item _ (refl, item-fits) $ fjoin ! $ owned ! u32 (Is u32) (uint-makes 𝓤 H A W w32) number _ (refl, number-fits) $ fjoin ! $
       owned ! TrackList (Is TrackList) (list-makes 𝓤 H A W) xs _ xs-is $ fjoin ! $
@@ -129,13 +136,7 @@ module _ {M : Type 1} (𝓤 : URA M) (H : Heap 𝓤) (A : Atoms 𝓤) (W : Given
 
     -- what is had after it, at the machine value w: the answer, and the last list of page
     abbrev Got : Val → DecodeAnswer × List ℕ → Item 𝓤
-    Got w z = given (Is D.the-row (z .0) (w ∷ []) × (length (z .1) ≡ length (pg .now))) (‵ (flft κ₀ q₀) ⊛ ‵ (flft (α ∷ []) fullShare) ⊛ ‵ (flft κ₁ q₁) ⊛ ‵ (finally u8 (pg .name) (z .1)))
-
-    abbrev text : Text
-    text = trackTextAt (s .now) area xs number item
-
-    abbrev Said : DecodeAnswer → List ℕ → Type 0
-    Said d zp = (d ≡ textAnswer text (length (pg .now))) × (zp ≡ textPage text (pg .now))
+    Got w z = given (Is D.the-row (z .0) (w ∷ []) × (Said (z .0) (z .1) × (length (z .1) ≡ length (pg .now)))) (‵ (flft κ₀ q₀) ⊛ ‵ (flft (α ∷ []) fullShare) ⊛ ‵ (flft κ₁ q₁) ⊛ ‵ (finally u8 (pg .name) (z .1)))
 
     gives : (w : Val) → ent 𝓤 (Decodes 𝓤 H A mem run .post passed w) (mean 𝓤 H A (later (some (Got w))))
     gives w =
@@ -146,7 +147,7 @@ module _ {M : Type 1} (𝓤 : URA M) (H : Heap 𝓤) (A : Atoms 𝓤) (W : Given
         fsplit ! $ move ! (1 ∷ []) $ fsplit ! $ move ! (1 ∷ []) $ fsplit ! $ move ! (1 ∷ []) $ fsplit ! $ move ! (1 ∷ []) $ fsplit ! $ move ! (1 ∷ []) $ fsplit ! $ fsplit ! $ move ! (1 ∷ []) $ feqL ! (λ l.
         move ! (7 ∷ []) $ split ! $ move ! (1 ∷ []) $ peeks ! D.the-row (Is D.the-row) (shows 𝓤 H A D.the-row) d (w ∷ []) (λ is.
         move ! (1 ∷ []) $ split ! $ move ! (1 ∷ []) $ split ! $ move ! (1 ∷ []) $ split ! $ keep ! (3 ∷ 2 ∷ 0 ∷ 5 ∷ []) $
-        at-once ! $ show ! (λ (z : DecodeAnswer × List ℕ). mean 𝓤 H A (Got w z)) (d, zs .1 .1 .1 .1 .1 .0) $ check ! (is, l) $ done !)))))
+        at-once ! $ show ! (λ (z : DecodeAnswer × List ℕ). mean 𝓤 H A (Got w z)) (d, zs .1 .1 .1 .1 .1 .0) $ check ! (is, (e, l)) $ done !)))))
 
   -- the MIR
   walk : (𝓣 : Tables 𝓤 H) → Triple 𝓤 (𝓣 .C #disc·decode-track-text) (Decodes 𝓤 H A mem run)
@@ -184,7 +185,7 @@ module _ {M : Type 1} (𝓤 : URA M) (H : Heap 𝓤) (A : Atoms 𝓤) (W : Given
       returns ! (look ! 26 refl) $ forget ! 4 refl $ forget ! 5 refl $ forget ! 7 refl $ forget ! 9 refl $ forget ! 11 refl $ forget ! 14 refl $ forget ! 16 refl $ forget ! 18 refl $ forget ! 20 refl $ forget ! 22 refl $ forget ! 24 refl $ forget ! 26 refl $
       move ! (26 ∷ 27 ∷ []) $ free1 ! $ move ! (24 ∷ 25 ∷ []) $ free1 ! $ move ! (22 ∷ 23 ∷ []) $ free1 ! $ move ! (20 ∷ 21 ∷ []) $ free1 ! $ move ! (18 ∷ 19 ∷ []) $ free1 ! $ move ! (16 ∷ 17 ∷ []) $ free1 ! $ move ! (14 ∷ 15 ∷ []) $ free1 ! $
       move ! (4 ∷ 13 ∷ []) $ free1 ! $ move ! (10 ∷ 11 ∷ []) $ free1 ! $ move ! (8 ∷ 9 ∷ []) $ free1 ! $ move ! (6 ∷ 7 ∷ []) $ free1 ! $ move ! (4 ∷ 5 ∷ []) $ free1 ! $ free0 ! $
-      by ! (exits (z .0) w (z .1) (e .0) (e .1)))))))))))))))))))))
+      by ! (exits (z .0) w (z .1) (e .0) (e .1 .0) (e .1 .1)))))))))))))))))))))
     where
       fm : FmC 𝓤 H (W .laws) (𝓣 .C)
       fm = fmOf 𝓤 H (W .laws) 𝓣
@@ -193,25 +194,25 @@ module _ {M : Type 1} (𝓤 : URA M) (H : Heap 𝓤) (A : Atoms 𝓤) (W : Given
       long = xs-is .1 .0 .1
 
 module _ {M : Type 1} (𝓤 : URA M) (H : Heap 𝓤) (A : Atoms 𝓤) (W : Given 𝓤 H A) (mem : Memory → SProp 𝓤) (run : Routine → Fun 𝓤) where
-  decode-track-text-walks : (𝓣 : Tables 𝓤 H) → Triple 𝓤 (𝓣 .C #disc·decode-track-text) (Decodes 𝓤 H A mem run) → Walks 𝓤 H A this.ended stayed (WpFn 𝓤 H (𝓣 .C) (𝓣 .Λ) code.function) (this.clauses 𝓤 H A mem run)
-  decode-track-text-walks 𝓣 known = walked 𝓤 H A this.ended stayed (this.clauses 𝓤 H A mem run) (WpFn 𝓤 H (𝓣 .C) (𝓣 .Λ) code.function)
+  decode-track-text-by-value-walks : (𝓣 : Tables 𝓤 H) → Triple 𝓤 (𝓣 .C #disc·decode-track-text) (Decodes 𝓤 H A mem run) → Walks 𝓤 H A this.ended stayed (WpFn 𝓤 H (𝓣 .C) (𝓣 .Λ) code.function) (this.clauses 𝓤 H A mem run)
+  decode-track-text-by-value-walks 𝓣 known = walked 𝓤 H A this.ended stayed (this.clauses 𝓤 H A mem run) (WpFn 𝓤 H (𝓣 .C) (𝓣 .Λ) code.function)
       (λ κs. (slice-vals, (area-vals, (list-vals, (uint-vals w32, (uint-vals w32, (slice-vals, tt)))))))
       (λ κs. (shr-slice-tells (named 0) (κs .0) u8, (LL.tells Ar.the-type Ar′.the-laws, (list-tells, (uint-tells w32, (uint-tells w32, (mut-slice-tells (named 1) (κs .1 .0) u8, tt)))))))
       (λ κs qs bounds a g are. via 𝓤 _ (fst∗ 𝓤 _ (emp 𝓤))
       (walk 𝓤 H A W mem run (κs .0) (κs .1 .0) (qs .0) (qs .1 .0) (a .0) (a .1 .0) (a .1 .1 .0) (a .1 .1 .1 .0) (a .1 .1 .1 .1 .0) (a .1 .1 .1 .1 .1 .0)
       (are .0 .0 .1) (are .1 .0) (are .1 .1 .0) (are .1 .1 .1 .0 .1) (are .1 .1 .1 .1 .0 .1) (are .1 .1 .1 .1 .1 .0 .0 .1) 𝓣 known))
 
-decode-track-text-meets : {M : Type 1} (𝓤 : URA M) (H : Heap 𝓤) (A : Atoms 𝓤) → Given 𝓤 H A → (mem : Memory → SProp 𝓤) (run : Routine → Fun 𝓤) (𝓣 : Tables 𝓤 H) → Triple 𝓤 (𝓣 .C #disc·decode-track-text) (Decodes 𝓤 H A mem run)
+decode-track-text-by-value-meets : {M : Type 1} (𝓤 : URA M) (H : Heap 𝓤) (A : Atoms 𝓤) → Given 𝓤 H A → (mem : Memory → SProp 𝓤) (run : Routine → Fun 𝓤) (𝓣 : Tables 𝓤 H) → Triple 𝓤 (𝓣 .C #disc·decode-track-text) (Decodes 𝓤 H A mem run)
     → Meets 𝓤 H A this.signature (WpFn 𝓤 H (𝓣 .C) (𝓣 .Λ) code.function) (this.spec 𝓤 H A mem run)
-decode-track-text-meets 𝓤 H A W mem run 𝓣 known =
+decode-track-text-by-value-meets 𝓤 H A W mem run 𝓣 known =
     walk-meets 𝓤 H A this.ended stayed W
     (goes-none-slice 𝓤 H A W 2 (0 ∷ []) tt (plain (λ _. u8)) yes, (goes-none 𝓤 H A W 2 (λ _. Ar.the-row) yes (λ κs x f. refl), (goes-none 𝓤 H A W 2 (λ _. TrackList) yes (λ κs x f. refl), (goes-none 𝓤 H A W 2 (λ _. u32) yes (λ κs x f. refl), (goes-none 𝓤 H A W 2 (λ _. u32) yes (λ κs x f. refl), (goes-gave-slice 𝓤 H A W 2 1 tt (plain (λ _. u8)), tt))))))
-    (this.clauses 𝓤 H A mem run) (WpFn 𝓤 H (𝓣 .C) (𝓣 .Λ) code.function) (WpFn-mono 𝓤 H (W .laws) 𝓣 code.function) (decode-track-text-walks 𝓤 H A W mem run 𝓣 known)
+    (this.clauses 𝓤 H A mem run) (WpFn 𝓤 H (𝓣 .C) (𝓣 .Λ) code.function) (WpFn-mono 𝓤 H (W .laws) 𝓣 code.function) (decode-track-text-by-value-walks 𝓤 H A W mem run 𝓣 known)
 
-pub decode-track-text-spec : {M : Type 1} → stated.statement M
+pub decode-track-text-by-value-spec : {M : Type 1} → stated.statement M
 unfolding code.routine tablesOf
-decode-track-text-spec 𝓤 H 𝓜 𝓖 𝓡 =
+decode-track-text-by-value-spec 𝓤 H 𝓜 𝓖 𝓡 =
     entered 𝓤 H (tripleOf 𝓤 H (𝓖 .A) this.signature (this.spec 𝓤 H (𝓖 .A) (𝓜 .mem) (𝓡 .run)))
-    (tables 𝓤 H 𝓜 𝓡 code.env .C) (tables 𝓤 H 𝓜 𝓡 code.env .Λ) #stored-discs·decode-track-text code.function (code.unfolded 𝓤 H 𝓜 𝓡)
-    (decode-track-text-meets 𝓤 H (𝓖 .A) (givenOf 𝓤 H 𝓜 𝓖) (𝓜 .mem) (𝓡 .run) (tablesOf 𝓤 H 𝓜 (tables 𝓤 H 𝓜 𝓡 code.env))
+    (tables 𝓤 H 𝓜 𝓡 code.env .C) (tables 𝓤 H 𝓜 𝓡 code.env .Λ) #disc-values·decode-track-text code.function (code.unfolded 𝓤 H 𝓜 𝓡)
+    (decode-track-text-by-value-meets 𝓤 H (𝓖 .A) (givenOf 𝓤 H 𝓜 𝓖) (𝓜 .mem) (𝓡 .run) (tablesOf 𝓤 H 𝓜 (tables 𝓤 H 𝓜 𝓡 code.env))
     (cited 𝓤 H (Decodes 𝓤 H (𝓖 .A) (𝓜 .mem) (𝓡 .run)) 𝓜 𝓡 code.env #disc·decode-track-text callee-def.routine code.calls-disc·decode·decode-disc-track-text (callee-thm.met 𝓤 H 𝓜 𝓖 𝓡)))

@@ -1,2 +1,0 @@
-pub mod LocalArray
-pub mod TrackList
