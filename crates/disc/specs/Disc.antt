@@ -42,6 +42,7 @@ judged none = refused masterTocTruncated
 judged (some table) =
     cond (isScarletBook table) (cond (isNewer table) (refused versionUnsupported) (reads table)) (refused notScarletBook)
 
+-- "Disc reading checks 1 to 6 in order": 2, then 3, 4, 5
 unfoldable pub masterIn : Source → ℕ → ℕ → ℕ → Master
 masterIn source work records words =
     cond (isShort work records words) (refused shortBuffer) (judged (runOf source masterLsn masterSectors))

@@ -1,4 +1,4 @@
--- Stored strings (01, "Text"). Assumes nothing.
+-- Stored strings (01, "Text"), and those that a record places in its table (01, "Area"). Assumes nothing.
 use Prim.Native.Nat.{ℕ, min}
 use mathlib.Core.Bool.{Bool, cond, not}
 use mathlib.Core.List.{List, []}

@@ -32,7 +32,7 @@ fn ascii_in(bytes: &[u8]) -> usize
     i
 }
 
-// Decodes the string at a place of a table: its end, and whether it is ASCII, are found in one pass.
+// Decodes the string at a place of a table: the end of an ASCII string is found in one pass; one that is not ASCII is sought anew.
 fn decode_stored(table: &[u8], place: usize, code: u8, page: &mut [u8]) -> DecodeAnswer
     ensures answer { λ r. ⌜ r ≡ decodeOf (stringAt (now (table .entry)) place) code (length (now (page .entry))) ⌝ }
     ensures filled { λ r. ⌜ now (page .exit) ≡ decodeInto (stringAt (now (table .entry)) place) code (now (page .entry)) ⌝ }
