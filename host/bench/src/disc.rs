@@ -10,9 +10,9 @@ use generate::layout::DATA;
 use generate::table::{put, put16, put32};
 use oracle::disc::{Disc as Rust, read_disc as read_toc};
 use oracle::image::SectorFormat;
-use sacd::DecodeAnswer;
-use sacd::area::{TRACK_TEXTS, Track};
-use sacd::disc::{
+use scarletbook::DecodeAnswer;
+use scarletbook::area::{TRACK_TEXTS, Track};
+use scarletbook::disc::{
     DISC_TEXTS, DISC_TRACKS, DISC_WORDS, DiscAnswer, FIRST_TRACKS, WORK_BYTES, decode_area_text,
     decode_disc_text, decode_track_text, read_disc,
 };

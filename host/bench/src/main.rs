@@ -40,7 +40,7 @@ fn disc(format: u32, sectors: usize) -> Disc {
     let image = room(sectors * form.stored, 0);
     Rng::new(1).fill(image);
     let [data, buf] = [0, 2048].map(|place| room(sectors * DATA, place));
-    assert_eq!(sacd::read_sectors(format, image, 0, sectors, data, 0), 0);
+    assert_eq!(scarletbook::read_sectors(format, image, 0, sectors, data, 0), 0);
     buf.copy_from_slice(data);
     Disc { format, form, image, data, buf }
 }
@@ -57,7 +57,14 @@ fn kinds() -> impl Iterator<Item = (usize, u32)> {
 
 fn read(disc: &mut Disc) {
     let (image, count) = (black_box(disc.image), disc.data.len() / DATA);
-    black_box(sacd::read_sectors(disc.format, image, 0, count, black_box(&mut *disc.buf), 0));
+    black_box(scarletbook::read_sectors(
+        disc.format,
+        image,
+        0,
+        count,
+        black_box(&mut *disc.buf),
+        0,
+    ));
 }
 
 /// As many bytes, all in one: what no format but 0 could do.
@@ -77,7 +84,7 @@ fn memcpy_by_sector(disc: &mut Disc) {
 
 fn compare(disc: &mut Disc) {
     let (image, count) = (black_box(disc.image), disc.data.len() / DATA);
-    let answer = sacd::compare_sectors(disc.format, image, 0, count, black_box(&*disc.buf));
+    let answer = scarletbook::compare_sectors(disc.format, image, 0, count, black_box(&*disc.buf));
     assert_eq!((answer.refusal, answer.equal), (0, 1));
 }
 
@@ -94,13 +101,13 @@ fn digests(disc: &mut Disc) {
 
 fn library_digests(disc: &mut Disc) {
     for sector in black_box(&*disc.buf).chunks_exact(DATA) {
-        black_box(sacd::digest(sector));
+        black_box(scarletbook::digest(sector));
     }
 }
 
 fn library_fingerprints(disc: &mut Disc) {
     for lsn in 0..disc.data.len() / DATA {
-        black_box(sacd::fingerprint(disc.format, black_box(disc.image), lsn as u32));
+        black_box(scarletbook::fingerprint(disc.format, black_box(disc.image), lsn as u32));
     }
 }
 

@@ -9,7 +9,7 @@ use generate::Rng;
 use generate::table::Structure;
 use generate::text::any_string;
 use oracle::toc::TrackTextItem;
-use sacd::area::{Drawn, TextPlace, Track, draw_at};
+use scarletbook::area::{Drawn, TextPlace, Track, draw_at};
 
 /// What draws to the end give: the items, and the texts of the last nonempty of each known type.
 #[derive(Debug, PartialEq)]

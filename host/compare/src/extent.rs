@@ -44,7 +44,7 @@ impl Extent {
         let image = rust::open(format, Length(length as u64));
         // A foreign format has no sectors.
         let sectors = image.as_ref().map_or(0, |image| image.sector_count() as usize);
-        let library = sacd::sector_count(format, length);
+        let library = scarletbook::sector_count(format, length);
         let kind = &mut self.sector_count;
         kind.case(&Question { format, length, lsn: 0, count: 0 }, 0, library, sectors);
         kind.class_if("none", sectors == 0 && image.is_some());
@@ -62,7 +62,7 @@ impl Extent {
 
     fn contains_case(&mut self, format: u32, length: usize, run: Run, rust: bool) {
         let Run { lsn, count } = run;
-        let library = sacd::contains(format, length, lsn, count);
+        let library = scarletbook::contains(format, length, lsn, count);
         let foreign = layout(format).is_none();
         let kind = &mut self.contains;
         kind.case(&Question { format, length, lsn, count }, 0, library, rust);

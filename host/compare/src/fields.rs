@@ -72,7 +72,7 @@ impl Fields {
     fn charset_case(&mut self, code: u8) {
         let set = rust::charset(code);
         let kind = &mut self.charset;
-        kind.case(&("code", code), 0, sacd::charset(code), set);
+        kind.case(&("code", code), 0, scarletbook::charset(code), set);
         for (number, class) in [(3, "set 3"), (4, "set 4"), (5, "set 5"), (6, "set 6")] {
             kind.class_if(class, set == number);
         }
@@ -84,7 +84,7 @@ impl Fields {
     fn language_case(&mut self, code: [u8; 2]) {
         let rust = rust::language(code);
         let kind = &mut self.language;
-        kind.case(&("code", code), 0, sacd::language(code), rust);
+        kind.case(&("code", code), 0, scarletbook::language(code), rust);
         let [first, second] = code;
         kind.class_if("two characters", rust.len == 2);
         kind.class_if("one before a zero", rust.len == 1 && second == 0);
@@ -98,8 +98,8 @@ impl Fields {
     fn field_case(&mut self, field: &[u8]) {
         let (stored, trimmed) = (rust::fixed_bytes(field), rust::fixed_text(field));
         let question = ("field", field);
-        self.fixed_bytes.case(&question, 0, sacd::fixed_bytes(field), stored);
-        self.fixed_text.case(&question, 0, sacd::fixed_text(field), trimmed);
+        self.fixed_bytes.case(&question, 0, scarletbook::fixed_bytes(field), stored);
+        self.fixed_text.case(&question, 0, scarletbook::fixed_text(field), trimmed);
         for kind in [&mut self.fixed_bytes, &mut self.fixed_text] {
             count_field(kind, field);
         }

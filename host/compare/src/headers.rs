@@ -3,7 +3,7 @@
 use crate::tally::Kind;
 use generate::Rng;
 use generate::header::{self, Header};
-use sacd::{AuditAnswer, Format};
+use scarletbook::{AuditAnswer, Format};
 
 const STORED: usize = 2064;
 /// Other correct headers, and as many of any bytes, beside each one and its single changes.
@@ -55,7 +55,7 @@ fn put(image: &mut Vec<u8>, headers: &[Header]) {
 fn audit(kind: &mut Kind, image: &[u8], lsn: u32, header: Header) {
     let sound = header::is_sound(header);
     let expected = AuditAnswer { refusal: 0, sound: u8::from(sound) };
-    kind.case(&header, 0, sacd::audit(Format::Raw2064, image, lsn), expected);
+    kind.case(&header, 0, scarletbook::audit(Format::Raw2064, image, lsn), expected);
     kind.class_if("sound", sound);
     kind.class_if("unsound", !sound);
 }

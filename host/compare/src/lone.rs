@@ -6,10 +6,10 @@ use generate::table::Structure;
 use oracle::error::Warning;
 use oracle::lone::{numbers, read_lone, slot_number};
 use oracle::toc::{self, AreaKind};
-use sacd::area::{
+use scarletbook::area::{
     Area, Frame, Genre, Locale, Lsn, TableAnswer, TableOrigin, Timecode, Track, TrackTimes, Version,
 };
-use sacd::{FixedText, LanguageCode};
+use scarletbook::{FixedText, LanguageCode};
 
 /// What a table of whole sectors gives: the Rust's own answer, and its records.
 pub struct Lone {
@@ -45,7 +45,7 @@ pub fn word(warning: &Warning) -> u32 {
 }
 
 pub fn area_record(table: &[u8], area: &toc::Area) -> Area {
-    let mut locales = [Locale::default(); sacd::area::MAX_LOCALES];
+    let mut locales = [Locale::default(); scarletbook::area::MAX_LOCALES];
     for (record, locale) in locales.iter_mut().zip(&area.locales) {
         *record = locale_record(locale);
     }

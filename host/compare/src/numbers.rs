@@ -29,11 +29,11 @@ impl Numbers {
     pub fn cases(&mut self, rng: &mut Rng) {
         let (table, at) = any_table(rng);
         let question = ("table", &table, "at", at);
-        let library = sacd::byte_at(&table, at);
+        let library = scarletbook::byte_at(&table, at);
         self.byte.case(&question, 0, library, private::byte(&table, at));
-        let library = sacd::be16_at(&table, at);
+        let library = scarletbook::be16_at(&table, at);
         self.be16.case(&question, 0, library, private::be16(&table, at));
-        let library = sacd::be32_at(&table, at);
+        let library = scarletbook::be32_at(&table, at);
         self.be32.case(&question, 0, library, private::be32(&table, at));
         for (width, kind) in [(1, &mut self.byte), (2, &mut self.be16), (4, &mut self.be32)] {
             let left = table.len().saturating_sub(at);
@@ -49,7 +49,7 @@ impl Numbers {
     fn product_case(&mut self, rng: &mut Rng) {
         let [a, b] = [any_factor(rng), any_factor(rng)];
         let kind = &mut self.product;
-        kind.case(&(a, b), 0, sacd::wrapping_mul(a, b), a.wrapping_mul(b));
+        kind.case(&(a, b), 0, scarletbook::wrapping_mul(a, b), a.wrapping_mul(b));
         kind.class_if("fits", a.checked_mul(b).is_some());
         kind.class_if("wraps", a.checked_mul(b).is_none());
     }
@@ -64,7 +64,7 @@ impl Numbers {
             Err(_) => plain_digest(&bytes),
         };
         let kind = &mut self.digest;
-        kind.case(&("bytes", &bytes), 0, sacd::digest(&bytes), rust);
+        kind.case(&("bytes", &bytes), 0, scarletbook::digest(&bytes), rust);
         kind.class_if("no bytes", length == 0);
         kind.class_if("one sector", length == 2048);
         kind.class_if("other lengths", length != 0 && length != 2048);

@@ -4,7 +4,7 @@
 use generate::layout::DATA;
 use generate::table::Structure;
 use generate::text::MOST;
-use sacd::area::{TRACK_TEXTS, TextPlace};
+use scarletbook::area::{TRACK_TEXTS, TextPlace};
 
 /// Where the walk meets sub-structures, in its order.
 pub fn met(table: &[u8]) -> Vec<(Structure, usize)> {

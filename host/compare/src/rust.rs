@@ -4,7 +4,7 @@ use generate::question::Run;
 use oracle::error::Error;
 use oracle::image::{Image, SectorFormat};
 use oracle::text::{self, Charset};
-use sacd::{FixedText, LanguageCode};
+use scarletbook::{FixedText, LanguageCode};
 use std::io::{self, Cursor, Read, Seek, SeekFrom};
 
 /// An image of the Rust over lent bytes.

@@ -6,7 +6,7 @@ use generate::Rng;
 use generate::header;
 use generate::image::{Image, pattern};
 use generate::question::{Place, Run, any_place, any_run};
-use sacd::{AuditAnswer, Comparison, Fingerprint};
+use scarletbook::{AuditAnswer, Comparison, Fingerprint};
 use std::io::Cursor;
 
 #[derive(Debug)]
@@ -87,7 +87,8 @@ impl Sectors {
         pattern(rng.below(256), &mut ours);
         let mut theirs = ours.clone();
         let Run { lsn, count } = run;
-        let refusal = sacd::read_sectors(image.format, &image.bytes, lsn, count, &mut ours, at);
+        let refusal =
+            scarletbook::read_sectors(image.format, &image.bytes, lsn, count, &mut ours, at);
         let library = Written { refusal, buffer: Buffer(&ours) };
         let refusal = expected_read(rust, run, &mut theirs, at);
         let rust = Written { refusal, buffer: Buffer(&theirs) };
@@ -100,7 +101,8 @@ impl Sectors {
 
     fn compare_case(&mut self, rng: &mut Rng, image: &Image, rust: &mut Option<Lent>, run: Run) {
         let lent = lent_bytes(rng, rust, run);
-        let library = sacd::compare_sectors(image.format, &image.bytes, run.lsn, run.count, &lent);
+        let library =
+            scarletbook::compare_sectors(image.format, &image.bytes, run.lsn, run.count, &lent);
         let rust = expected_comparison(rust, run, &lent);
         let refusal = rust.refusal;
         let kind = &mut self.compare;
@@ -113,7 +115,7 @@ impl Sectors {
     }
 
     fn fingerprint_case(&mut self, image: &Image, rust: &mut Option<Lent>, lsn: u32) {
-        let library = sacd::fingerprint(image.format, &image.bytes, lsn);
+        let library = scarletbook::fingerprint(image.format, &image.bytes, lsn);
         let rust = expected_fingerprint(rust, lsn);
         let refusal = rust.refusal;
         let kind = &mut self.fingerprint;
@@ -122,7 +124,7 @@ impl Sectors {
     }
 
     fn audit_case(&mut self, image: &Image, rust: &Option<Lent>, lsn: u32) {
-        let library = sacd::audit(image.format, &image.bytes, lsn);
+        let library = scarletbook::audit(image.format, &image.bytes, lsn);
         let expected = expected_audit(image, rust, lsn);
         let kind = &mut self.audit;
         let refusal = expected.refusal;

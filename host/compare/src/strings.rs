@@ -7,7 +7,7 @@ use generate::Rng;
 use generate::image::pattern;
 use generate::text::{MOST, any_code, any_page_length, any_string, any_text};
 use generate::text::{single_texts, utf8_length};
-use sacd::DecodeAnswer;
+use scarletbook::DecodeAnswer;
 
 /// Bytes next to a boundary of decoding.
 const EDGES: [(u8, &str); 8] = [
@@ -112,8 +112,8 @@ impl Strings {
 
     fn string_case(&mut self, table: &[u8], place: usize) {
         let string = oracle::text::string_bytes(table, place);
-        let library = sacd::string_bytes(table, place);
-        let library = part(table, library, sacd::string_length(table, place));
+        let library = scarletbook::string_bytes(table, place);
+        let library = part(table, library, scarletbook::string_length(table, place));
         let kind = &mut self.string_bytes;
         let question = ("table", Buffer(table), "place", place);
         kind.case(&question, 0, library, part(table, string, string.len()));
@@ -124,7 +124,7 @@ impl Strings {
         let mut ours = vec![0; page];
         pattern(salt, &mut ours);
         let mut theirs = ours.clone();
-        let answer = sacd::decode(bytes, code, &mut ours);
+        let answer = scarletbook::decode(bytes, code, &mut ours);
         let library = Decoded { answer, page: Buffer(&ours) };
         let answer = expected_decode(bytes, code, &mut theirs);
         let rust = Decoded { answer, page: Buffer(&theirs) };

@@ -9,8 +9,8 @@ use generate::Rng;
 use generate::image::pattern;
 use generate::layout::DATA;
 use generate::table::MOST_SECTORS;
-use sacd::FixedText;
-use sacd::area::{
+use scarletbook::FixedText;
+use scarletbook::area::{
     Frame, Genre, Lsn, MAX_TRACKS, TABLE_WORDS, TableAnswer, TextPlace, Track, TrackTimes,
 };
 
@@ -84,7 +84,7 @@ impl Tables {
     fn read_case(&mut self, lent: Lent, table: &[u8], lone: Option<&Lone>) {
         let (tracks, words) = (lent.tracks.len(), lent.words.len());
         let mut ours = lent.clone();
-        let answer = sacd::area::read_table(table, &mut ours.tracks, &mut ours.words);
+        let answer = scarletbook::area::read_table(table, &mut ours.tracks, &mut ours.words);
         let mut theirs = lent;
         let expected = expected(lone, &mut theirs);
         let [library, rust] = left((answer, &ours), (expected, &theirs));
@@ -197,7 +197,7 @@ pub fn patterned_tracks(salt: usize, count: usize) -> Vec<Track> {
 
 fn patterned_track(words: &[u32]) -> Track {
     let bytes: Vec<_> = words.iter().flat_map(|word| word.to_le_bytes()).collect();
-    let text = &words[words.len() - sacd::area::TRACK_TEXTS..];
+    let text = &words[words.len() - scarletbook::area::TRACK_TEXTS..];
     Track {
         number: bytes[0],
         start_lsn: Lsn(words[1]),

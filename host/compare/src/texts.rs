@@ -13,8 +13,8 @@ use generate::layout::DATA;
 use generate::table::{MOST_SECTORS, put};
 use generate::text::any_page_length;
 use oracle::toc::{AreaTextItem, TrackTextItem};
-use sacd::DecodeAnswer;
-use sacd::area::{AREA_TEXTS, Area, MAX_TRACKS, TRACK_TEXTS, TextPlace, Track};
+use scarletbook::DecodeAnswer;
+use scarletbook::area::{AREA_TEXTS, Area, MAX_TRACKS, TRACK_TEXTS, TextPlace, Track};
 
 /// Which text is asked for: of the area or of a track.
 #[derive(Clone, Copy, Debug, PartialEq)]
@@ -34,9 +34,9 @@ impl Lent<'_> {
     fn decode(&self, which: Which, page: &mut [u8]) -> DecodeAnswer {
         let Lent { table, area, tracks } = self;
         match which {
-            Which::Area(item) => sacd::area::decode_area_text(table, area, item, page),
+            Which::Area(item) => scarletbook::area::decode_area_text(table, area, item, page),
             Which::Track(number, item) => {
-                sacd::area::decode_track_text(table, area, tracks, number, item, page)
+                scarletbook::area::decode_track_text(table, area, tracks, number, item, page)
             }
         }
     }

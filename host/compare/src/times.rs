@@ -3,7 +3,7 @@
 use crate::tally::Kind;
 use generate::Rng;
 use oracle::toc;
-use sacd::area::{Capped, Frame, Timecode};
+use scarletbook::area::{Capped, Frame, Timecode};
 
 pub struct Times {
     pub frame_number: Kind,
@@ -50,7 +50,7 @@ impl Times {
 
     fn frame_case(&mut self, time: [u8; 3]) {
         let [minutes, seconds, frames] = time;
-        let library = sacd::area::frame_number(Timecode { minutes, seconds, frames });
+        let library = scarletbook::area::frame_number(Timecode { minutes, seconds, frames });
         let rust = Frame(toc::Timecode { minutes, seconds, frames }.frame_number());
         let kind = &mut self.frame_number;
         kind.case(&time, 0, library, rust);
@@ -61,7 +61,7 @@ impl Times {
     }
 
     fn cap_case(&mut self, start: u32, duration: u32, playtime: u32) {
-        let library = sacd::area::cap(Frame(start), Frame(duration), Frame(playtime));
+        let library = scarletbook::area::cap(Frame(start), Frame(duration), Frame(playtime));
         let kind = &mut self.cap;
         let question = (start, duration, playtime);
         kind.case(&question, 0, library, expected_cap(start, duration, playtime));

@@ -2,8 +2,8 @@
 
 use crate::lone::Lone;
 use crate::tally::Kind;
-use sacd::FixedText;
-use sacd::area::{Area, Locale, Track};
+use scarletbook::FixedText;
+use scarletbook::area::{Area, Locale, Track};
 use std::collections::BTreeSet;
 
 /// A field: its name, the values that it must take at least, and those that it took.

@@ -13,9 +13,9 @@ use generate::disc::{Disc, MASTER, MASTER_SECTORS};
 use generate::layout::{DATA, layout};
 use rewrite::{REWRITINGS, Rewriting, cut};
 use rules::{Rules, Slot, Yield};
-use sacd::area::{Area, Lsn};
-use sacd::disc::{DiscAnswer, FIRST_TRACKS, REGIONS};
 use samples::NAMES;
+use scarletbook::area::{Area, Lsn};
+use scarletbook::disc::{DiscAnswer, FIRST_TRACKS, REGIONS};
 
 /// The first sector behind the master table.
 const BEHIND: usize = MASTER + MASTER_SECTORS;

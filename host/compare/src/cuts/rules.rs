@@ -3,8 +3,8 @@
 use crate::disc::answer::{Answer, data, is_read, readable};
 use crate::lone::Lone;
 use generate::disc::{Disc, MASTER, MASTER_SECTORS};
-use sacd::area::{Area, Lsn, TableOrigin, Track};
-use sacd::disc::{AreaPointer, MasterToc};
+use scarletbook::area::{Area, Lsn, TableOrigin, Track};
+use scarletbook::disc::{AreaPointer, MasterToc};
 
 /// What a slot yields.
 #[derive(Clone, Debug, PartialEq)]

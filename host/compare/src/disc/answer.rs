@@ -10,9 +10,9 @@ use oracle::disc::{self, Disc as Rust};
 use oracle::error::{Slot, Warning};
 use oracle::image::SectorFormat;
 use oracle::toc::{self, DiscText, Toc};
-use sacd::FixedText;
-use sacd::area::{Area, Genre, Locale, Lsn, Track, Version};
-use sacd::disc::{AreaPointer, Date, DiscAnswer, GENRES, MASTER_LOCALES, MasterToc};
+use scarletbook::FixedText;
+use scarletbook::area::{Area, Genre, Locale, Lsn, Track, Version};
+use scarletbook::disc::{AreaPointer, Date, DiscAnswer, GENRES, MASTER_LOCALES, MasterToc};
 
 /// What a disc of a known format gives.
 pub struct Answer {

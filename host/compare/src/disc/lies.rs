@@ -11,9 +11,9 @@ use generate::Rng;
 use generate::layout::DATA;
 use generate::table::{MOST_SECTORS, put};
 use generate::text::any_page_length;
-use sacd::DecodeAnswer;
-use sacd::area::{AREA_TEXTS, Area, MAX_TRACKS, TRACK_TEXTS, TextPlace, Track};
-use sacd::disc::{DISC_TEXTS, DISC_TRACKS, FIRST_TRACKS, MasterToc, REGIONS, WORK_BYTES};
+use scarletbook::DecodeAnswer;
+use scarletbook::area::{AREA_TEXTS, Area, MAX_TRACKS, TRACK_TEXTS, TextPlace, Track};
+use scarletbook::disc::{DISC_TEXTS, DISC_TRACKS, FIRST_TRACKS, MasterToc, REGIONS, WORK_BYTES};
 
 /// The bytes of a table at most.
 const MOST: usize = MOST_SECTORS * DATA;

@@ -5,8 +5,8 @@ use crate::tables::{first_difference, patterned_tracks, patterned_words, write};
 use generate::Rng;
 use generate::disc::Disc;
 use generate::image::pattern;
-use sacd::area::Track;
-use sacd::disc::{
+use scarletbook::area::Track;
+use scarletbook::disc::{
     DISC_TRACKS, DISC_WORDS, DiscAnswer, FIRST_TRACKS, REGIONS, WORK_BYTES, read_disc,
 };
 

@@ -6,8 +6,8 @@ use crate::plain;
 use crate::tally::Kind;
 use generate::disc::{BEHIND, Disc, MASTER, MASTER_COPIES, MASTER_SECTORS};
 use generate::layout::DATA;
-use sacd::area::{Area, Lsn};
-use sacd::disc::AreaPointer;
+use scarletbook::area::{Area, Lsn};
+use scarletbook::disc::AreaPointer;
 use std::ops::Range;
 
 /// Classes of accepted discs and of silent ones.

@@ -10,9 +10,9 @@ use generate::image::pattern;
 use generate::text::any_page_length;
 use oracle::error::Slot;
 use oracle::toc::{AreaTextItem, DiscTextItem, TrackTextItem};
-use sacd::DecodeAnswer;
-use sacd::area::{Area, Track};
-use sacd::disc::{
+use scarletbook::DecodeAnswer;
+use scarletbook::area::{Area, Track};
+use scarletbook::disc::{
     DISC_TRACKS, MasterToc, WORK_BYTES, decode_area_text, decode_disc_text, decode_track_text,
 };
 

@@ -3,8 +3,8 @@
 use super::answer::Answer;
 use crate::tally::Kind;
 use crate::values::{self, locale_values, text_value};
-use sacd::area::Genre;
-use sacd::disc::{AreaPointer, DiscAnswer, MasterToc};
+use scarletbook::area::Genre;
+use scarletbook::disc::{AreaPointer, DiscAnswer, MasterToc};
 
 /// Names, the values that are asked for at least, and the values.
 type Fields = Vec<(&'static str, usize, u64)>;
