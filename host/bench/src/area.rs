@@ -8,8 +8,10 @@ use generate::layout::DATA;
 use generate::table::{MOST_SECTORS, put, put16, put32};
 use oracle::lone::read_lone;
 use oracle::toc::TrackTextItem;
-use scarletbook::area::{AREA_TEXTS, MAX_TRACKS, TABLE_WORDS, TRACK_TEXTS, TableAnswer, Track};
-use scarletbook::area::{decode_area_text, decode_track_text, read_table};
+use scarletbook::raw::{
+    AREA_TEXTS, MAX_TRACKS, TABLE_WORDS, TRACK_TEXTS, TableAnswer, Track, decode_area_text,
+    decode_track_text, read_table,
+};
 use std::hint::black_box;
 
 /// The bytes of a text: then the last track's begins within reach of its two-byte offset.

@@ -10,11 +10,9 @@ use generate::layout::DATA;
 use generate::table::{put, put16, put32};
 use oracle::disc::{Disc as Rust, read_disc as read_toc};
 use oracle::image::SectorFormat;
-use scarletbook::DecodeAnswer;
-use scarletbook::area::{TRACK_TEXTS, Track};
-use scarletbook::disc::{
-    DISC_TEXTS, DISC_TRACKS, DISC_WORDS, DiscAnswer, FIRST_TRACKS, WORK_BYTES, decode_area_text,
-    decode_disc_text, decode_track_text, read_disc,
+use scarletbook::raw::{
+    DISC_TEXTS, DISC_TRACKS, DISC_WORDS, DecodeAnswer, DiscAnswer, FIRST_TRACKS, TRACK_TEXTS,
+    Track, WORK_BYTES, decode_disc_area_text, decode_disc_text, decode_disc_track_text, read_disc,
 };
 use std::hint::black_box;
 
@@ -168,14 +166,14 @@ fn read_and_decode(disc: &mut Disc, mut decoded: impl FnMut(DecodeAnswer)) {
     for (area, first) in answer.areas().iter().zip(FIRST_TRACKS) {
         for (item, text) in (0..).zip(area.text) {
             if text.place > 0 {
-                decoded(decode_area_text(work, area, item, page));
+                decoded(decode_disc_area_text(work, area, item, page));
             }
         }
         for track in &tracks[first..first + usize::from(area.track_count)] {
             let number = track.number.into();
             for (item, text) in (0..).zip(track.text) {
                 if text.place > 0 {
-                    decoded(decode_track_text(work, area, tracks, number, item, page));
+                    decoded(decode_disc_track_text(work, area, tracks, number, item, page));
                 }
             }
         }

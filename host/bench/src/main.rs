@@ -40,7 +40,7 @@ fn disc(format: u32, sectors: usize) -> Disc {
     let image = room(sectors * form.stored, 0);
     Rng::new(1).fill(image);
     let [data, buf] = [0, 2048].map(|place| room(sectors * DATA, place));
-    assert_eq!(scarletbook::read_sectors(format, image, 0, sectors, data, 0), 0);
+    assert_eq!(scarletbook::raw::read_sectors(format, image, 0, sectors, data, 0), 0);
     buf.copy_from_slice(data);
     Disc { format, form, image, data, buf }
 }
@@ -57,7 +57,7 @@ fn kinds() -> impl Iterator<Item = (usize, u32)> {
 
 fn read(disc: &mut Disc) {
     let (image, count) = (black_box(disc.image), disc.data.len() / DATA);
-    black_box(scarletbook::read_sectors(
+    black_box(scarletbook::raw::read_sectors(
         disc.format,
         image,
         0,
@@ -84,7 +84,8 @@ fn memcpy_by_sector(disc: &mut Disc) {
 
 fn compare(disc: &mut Disc) {
     let (image, count) = (black_box(disc.image), disc.data.len() / DATA);
-    let answer = scarletbook::compare_sectors(disc.format, image, 0, count, black_box(&*disc.buf));
+    let answer =
+        scarletbook::raw::compare_sectors(disc.format, image, 0, count, black_box(&*disc.buf));
     assert_eq!((answer.refusal, answer.equal), (0, 1));
 }
 
@@ -101,13 +102,13 @@ fn digests(disc: &mut Disc) {
 
 fn library_digests(disc: &mut Disc) {
     for sector in black_box(&*disc.buf).chunks_exact(DATA) {
-        black_box(scarletbook::digest(sector));
+        black_box(scarletbook::raw::digest(sector));
     }
 }
 
 fn library_fingerprints(disc: &mut Disc) {
     for lsn in 0..disc.data.len() / DATA {
-        black_box(scarletbook::fingerprint(disc.format, black_box(disc.image), lsn as u32));
+        black_box(scarletbook::raw::fingerprint(disc.format, black_box(disc.image), lsn as u32));
     }
 }
 

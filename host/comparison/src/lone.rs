@@ -1,0 +1,122 @@
+//! The Rust's answer to a lone table, in the records of the library.
+
+use crate::plain;
+use crate::rust::{FAILED, one_a_character, padded};
+use generate::table::Structure;
+use oracle::error::Warning;
+use oracle::lone::{numbers, read_lone, slot_number};
+use oracle::toc::{self, AreaKind};
+use scarletbook::raw::{
+    Area, FixedText, Frame, Genre, LanguageCode, Locale, Lsn, TableAnswer, TableOrigin, Timecode,
+    Track, TrackTimes, Version,
+};
+
+/// What a table of whole sectors gives: the Rust's own answer, and its records.
+pub struct Lone {
+    refusal: u8,
+    /// Nothing for a table that is skipped.
+    pub rust: Option<toc::Area>,
+    pub words: Vec<u32>,
+    pub area: Area,
+    pub tracks: Vec<Track>,
+}
+
+impl Lone {
+    pub fn read(table: &[u8]) -> Self {
+        let (refusal, rust, warnings) = match read_lone(table) {
+            Ok((Some(area), warnings)) => (0, Some(area), warnings),
+            Ok((None, warnings)) => (6, None, warnings),
+            Err(_) => (FAILED, None, vec![]),
+        };
+        let words = warnings.iter().map(word).collect();
+        let area = rust.as_ref().map_or_else(Area::default, |area| area_record(table, area));
+        let tracks = rust.as_ref().map_or_else(Vec::new, |area| track_records(table, area));
+        Lone { refusal, rust, words, area, tracks }
+    }
+
+    pub fn answer(&self) -> TableAnswer {
+        TableAnswer { refusal: self.refusal, warnings: self.words.len(), area: self.area }
+    }
+}
+
+pub fn word(warning: &Warning) -> u32 {
+    let [code, slot, track] = numbers(warning).map(u32::from);
+    code * 65_536 + slot * 256 + track
+}
+
+pub fn area_record(table: &[u8], area: &toc::Area) -> Area {
+    let mut locales = [Locale::default(); scarletbook::raw::MAX_LOCALES];
+    for (record, locale) in locales.iter_mut().zip(&area.locales) {
+        *record = locale_record(locale);
+    }
+    let toc::Version { major, minor } = area.version;
+    let toc::Timecode { minutes, seconds, frames } = area.playtime;
+    Area {
+        present: 1,
+        origin: TableOrigin {
+            slot: slot_number(area.slot),
+            toc_lsn: Lsn(area.toc_lsn),
+            toc_sectors: area.toc_sectors,
+        },
+        kind: match area.kind {
+            AreaKind::TwoChannel => 1,
+            AreaKind::Multichannel => 2,
+        },
+        version: Version { major, minor },
+        max_byte_rate: area.max_byte_rate,
+        sample_frequency_code: area.sample_frequency_code,
+        frame_format: area.frame_format,
+        channel_count: area.channel_count,
+        area_config: area.area_config,
+        max_available_channels: area.max_available_channels,
+        area_mute_flags: area.area_mute_flags,
+        track_attribute: area.track_attribute,
+        playtime: Timecode { minutes, seconds, frames },
+        track_offset: area.track_offset,
+        track_count: area.tracks.len() as u16,
+        audio_start_lsn: Lsn(area.audio_start_lsn),
+        audio_end_lsn: Lsn(area.audio_end_lsn),
+        text_channel_count: area.text_channel_count,
+        locale_count: area.locales.len() as u8,
+        locales,
+        text_charset: area.text_charset,
+        text: std::array::from_fn(|item| plain::area_text(table, item)),
+    }
+}
+
+pub fn locale_record(locale: &toc::Locale) -> Locale {
+    let (bytes, len) = padded(&one_a_character(&locale.language));
+    let language = LanguageCode { bytes, len };
+    Locale { language, language_code: locale.language_code, charset: locale.charset }
+}
+
+pub fn track_records(table: &[u8], area: &toc::Area) -> Vec<Track> {
+    let block = plain::first_of(&plain::met(table), Structure::TrackText);
+    let records = area.tracks.iter().enumerate().map(|(i, track)| Track {
+        text: plain::places(&plain::track_items(table, plain::text_at(table, block, i))),
+        ..track_record(track)
+    });
+    records.collect()
+}
+
+/// The record of a track, without the places of its texts.
+fn track_record(track: &toc::Track) -> Track {
+    let (bytes, len) = padded(&one_a_character(track.isrc.as_deref().unwrap_or_default()));
+    let genre = track.genre.map(|toc::Genre { category, index }| Genre { category, index });
+    Track {
+        number: track.number,
+        start_lsn: Lsn(track.start_lsn),
+        length_sectors: track.length_sectors,
+        times: TrackTimes {
+            start_frame: Frame(track.start_frame),
+            duration_frames: Frame(track.duration_frames),
+        },
+        start_flags: track.start_flags,
+        duration_flags: track.duration_flags,
+        has_isrc: track.isrc.is_some().into(),
+        isrc: FixedText { bytes, len },
+        has_genre: genre.is_some().into(),
+        genre: genre.unwrap_or_default(),
+        text: Default::default(),
+    }
+}

@@ -1,0 +1,228 @@
+//! Stored strings as parts of a table, and their decoding into a page.
+
+use crate::rust;
+use crate::sectors::Buffer;
+use crate::tally::Kind;
+use generate::Rng;
+use generate::image::pattern;
+use generate::text::{MOST, any_code, any_page_length, any_string, any_text};
+use generate::text::{single_texts, utf8_length};
+use scarletbook::raw::DecodeAnswer;
+
+/// Bytes next to a boundary of decoding.
+const EDGES: [(u8, &str); 8] = [
+    (0x00, "byte 00"),
+    (0x1f, "byte 1F"),
+    (0x20, "byte 20"),
+    (0x7f, "byte 7F"),
+    (0x80, "byte 80"),
+    (0xbf, "byte BF"),
+    (0xc0, "byte C0"),
+    (0xff, "byte FF"),
+];
+
+/// A part of a table: its length, where it begins unless it is empty, and its bytes.
+#[derive(Debug, PartialEq)]
+struct Part<'a> {
+    length: usize,
+    begin: Option<usize>,
+    bytes: Buffer<'a>,
+}
+
+/// What decoding leaves: its answer and the whole page.
+#[derive(Debug, PartialEq)]
+pub struct Decoded<'a> {
+    pub answer: DecodeAnswer,
+    pub page: Buffer<'a>,
+}
+
+#[derive(Debug)]
+#[allow(dead_code)] // its fields are printed
+struct Question<'a> {
+    bytes: Buffer<'a>,
+    code: u8,
+    page: usize,
+}
+
+pub struct Strings {
+    pub string_bytes: Kind,
+    pub decode: Kind,
+}
+
+impl Strings {
+    pub fn new() -> Self {
+        let ends = ["before a zero", "to the table's end", "at a zero"];
+        let last = ["4,095 before a zero", "4,095 to the end"];
+        let full = ["4,096 before a zero", "4,096 to the end", "4,096 of 4,097", "4,096 of more"];
+        let out = ["at the end", "just behind the end", "far out", "largest place", "no table"];
+        let sets = ["refusal 9", "set 3", "set 4", "set 5", "set 6", "set above 7"];
+        let absent = ["absent in Latin-1", "absent in set 3 to 6", "Latin-1 above 7"];
+        let pages = ["refusal 10", "page to the byte", "one byte short", "longer page", "no page"];
+        let texts = ["ASCII alone", "high bytes alone", "ASCII and high bytes"];
+        let controls = ["controls in ASCII", "controls and high bytes"];
+        let lengths = ["4,096 bytes", "more than 4,096 bytes"];
+        Strings {
+            string_bytes: Kind::new(
+                "string_bytes",
+                &[&ends[..], &last[..], &full[..], &out[..]].concat(),
+            ),
+            decode: Kind::new(
+                "decode",
+                &[
+                    &sets[..],
+                    &absent[..],
+                    &pages[..],
+                    &["9 before 10"],
+                    &texts[..],
+                    &controls[..],
+                    &lengths[..],
+                    &EDGES.map(|edge| edge.1),
+                ]
+                .concat(),
+            ),
+        }
+    }
+
+    /// Every code, every byte, and one other byte in every place of a text, in short pages.
+    pub fn all(&mut self) {
+        for byte in 0..=255 {
+            for page in 0..=6 {
+                self.decode_case(b"ab \x1f\xe9", byte, page, 0);
+                self.decode_case(b"", byte, page, 0);
+            }
+            for page in 0..=3 {
+                self.decode_case(&[byte], 0, page, 0);
+            }
+        }
+        for text in single_texts(0x1f).chain(single_texts(0xe9)) {
+            let need = utf8_length(&text);
+            self.decode_case(&text, 0, need, 0);
+            self.decode_case(&text, 0, need - 1, 0);
+        }
+    }
+
+    /// A random string and a random text.
+    pub fn cases(&mut self, rng: &mut Rng) {
+        let (table, place) = any_string(rng);
+        self.string_case(&table, place);
+        let text = any_text(rng);
+        let page = any_page_length(rng, utf8_length(&text));
+        self.decode_case(&text, any_code(rng), page, rng.below(256));
+    }
+
+    fn string_case(&mut self, table: &[u8], place: usize) {
+        let string = oracle::text::string_bytes(table, place);
+        let library = scarletbook::raw::string_bytes(table, place);
+        let library = part(table, library, scarletbook::raw::string_length(table, place));
+        let kind = &mut self.string_bytes;
+        let question = ("table", Buffer(table), "place", place);
+        kind.case(&question, 0, library, part(table, string, string.len()));
+        count_string(kind, table, place, string.len());
+    }
+
+    fn decode_case(&mut self, bytes: &[u8], code: u8, page: usize, salt: usize) {
+        let mut ours = vec![0; page];
+        pattern(salt, &mut ours);
+        let mut theirs = ours.clone();
+        let answer = scarletbook::raw::decode(bytes, code, &mut ours);
+        let library = Decoded { answer, page: Buffer(&ours) };
+        let answer = expected_decode(bytes, code, &mut theirs);
+        let rust = Decoded { answer, page: Buffer(&theirs) };
+        let kind = &mut self.decode;
+        let question = Question { bytes: Buffer(bytes), code, page };
+        kind.case(&question, answer.refusal, library, rust);
+        count_code(kind, bytes, code, page, answer);
+        count_page(kind, bytes, page, answer);
+        count_text(kind, bytes, answer);
+    }
+}
+
+fn part<'a>(table: &[u8], bytes: &'a [u8], length: usize) -> Part<'a> {
+    let begin = bytes.as_ptr().addr().wrapping_sub(table.as_ptr().addr());
+    Part { length, begin: (!bytes.is_empty()).then_some(begin), bytes: Buffer(bytes) }
+}
+
+/// The classes of a string, by its length, the byte behind it, and the place.
+fn count_string(kind: &mut Kind, table: &[u8], place: usize, length: usize) {
+    let rest = table.get(place..).unwrap_or_default();
+    let zero = rest.get(length) == Some(&0);
+    let end = rest.len() == length;
+    let below = 0 < length && length < MOST;
+    kind.class_if("before a zero", below && zero);
+    kind.class_if("to the table's end", below && end);
+    kind.class_if("at a zero", length == 0 && zero);
+    kind.class_if("4,095 before a zero", length == MOST - 1 && zero);
+    kind.class_if("4,095 to the end", length == MOST - 1 && end);
+    kind.class_if("4,096 before a zero", length == MOST && zero);
+    kind.class_if("4,096 to the end", length == MOST && end);
+    let behind = rest.iter().skip(length).take_while(|&&byte| byte != 0).count();
+    kind.class_if("4,096 of 4,097", length == MOST && behind == 1);
+    kind.class_if("4,096 of more", length == MOST && behind > 1);
+    kind.class_if("at the end", place == table.len() && place > 0);
+    kind.class_if("just behind the end", place == table.len() + 1);
+    kind.class_if("far out", place > table.len() + 1);
+    kind.class_if("largest place", place == usize::MAX && !table.is_empty());
+    kind.class_if("no table", table.is_empty());
+}
+
+/// The text by the Rust.
+fn expected_decode(bytes: &[u8], code: u8, page: &mut [u8]) -> DecodeAnswer {
+    expected_text(rust::decode(bytes, code).as_deref(), code, page)
+}
+
+/// A text of the Rust, or its presence alone in sets 3 to 6; refusals 9 and 10 by the document.
+pub fn expected_text(text: Option<&str>, code: u8, page: &mut [u8]) -> DecodeAnswer {
+    let refused = |refusal| DecodeAnswer { refusal, len: 0 };
+    let Some(text) = text else { return refused(0) };
+    if (3..=6).contains(&(code % 8)) {
+        return refused(9);
+    }
+    let Some(start) = page.get_mut(..text.len()) else { return refused(10) };
+    start.copy_from_slice(text.as_bytes());
+    DecodeAnswer { refusal: 0, len: text.len() }
+}
+
+fn count_code(kind: &mut Kind, bytes: &[u8], code: u8, page: usize, answer: DecodeAnswer) {
+    let set = code % 8;
+    let mapped = (3..=6).contains(&set);
+    for (number, class) in [(3, "set 3"), (4, "set 4"), (5, "set 5"), (6, "set 6")] {
+        kind.class_if(class, answer.refusal == 9 && set == number);
+    }
+    kind.class_if("set above 7", answer.refusal == 9 && code > 7);
+    kind.class_if("Latin-1 above 7", answer.len > 0 && code > 7);
+    kind.class_if("absent in Latin-1", bytes.is_empty() && !mapped);
+    kind.class_if("absent in set 3 to 6", bytes.is_empty() && mapped);
+    kind.class_if("9 before 10", answer.refusal == 9 && utf8_length(bytes) > page);
+}
+
+fn count_page(kind: &mut Kind, bytes: &[u8], page: usize, answer: DecodeAnswer) {
+    let need = utf8_length(bytes);
+    kind.class_if("page to the byte", answer.len > 0 && page == need);
+    kind.class_if("longer page", answer.len > 0 && page > need);
+    kind.class_if("one byte short", answer.refusal == 10 && page + 1 == need && page > 0);
+    kind.class_if("no page", answer.refusal == 10 && page == 0);
+}
+
+/// The classes of a decoded text, by its bytes.
+fn count_text(kind: &mut Kind, bytes: &[u8], answer: DecodeAnswer) {
+    if answer.len == 0 {
+        return;
+    }
+    let (mut met, mut controls, mut plain, mut high) = ([false; 256], false, false, false);
+    for &byte in bytes {
+        met[usize::from(byte)] = true;
+        controls |= byte < 0x20;
+        plain |= (0x20..0x80).contains(&byte);
+        high |= byte >= 0x80;
+    }
+    kind.class_if("ASCII alone", plain && !controls && !high);
+    kind.class_if("high bytes alone", high && !plain && !controls);
+    kind.class_if("ASCII and high bytes", plain && high && !controls);
+    kind.class_if("controls in ASCII", plain && controls && !high);
+    kind.class_if("controls and high bytes", controls && high);
+    kind.class_if("4,096 bytes", bytes.len() == MOST);
+    kind.class_if("more than 4,096 bytes", bytes.len() > MOST);
+    for (byte, class) in EDGES {
+        kind.class_if(class, met[usize::from(byte)]);
+    }
+}

@@ -1,0 +1,126 @@
+//! Refusals: their numbers and words.
+
+use std::error::Error;
+use std::fmt;
+
+/// Why a call was refused, by its number.
+#[derive(Clone, Copy, Debug, PartialEq, Eq, Hash, PartialOrd, Ord)]
+#[repr(u8)]
+pub enum Refusal {
+    /// The format is not 0, 1 or 2.
+    ForeignFormat = 1,
+    /// A lent buffer is too short.
+    ShortBuffer = 2,
+    /// The image has fewer than 520 whole sectors.
+    CutMaster = 3,
+    /// LSN 510 does not begin `SACDMTOC`.
+    NotScarletBook = 4,
+    /// The major version of the master table is above 1.
+    NewerEdition = 5,
+    /// The lone table, or neither slot of the disc, yields an area.
+    NoArea = 6,
+    /// The table has 0 bytes, over 262,144 or no multiple of 2,048.
+    OddTable = 7,
+    /// A sector is not in the image, or there is no such track, item or area.
+    NoSuchEntry = 8,
+    /// The text is of set 3, 4, 5 or 6, whose mappings are not held.
+    SetNotHeld = 9,
+    /// The decoded text is longer than the lent page.
+    ShortPage = 10,
+    /// Sectors of this format have no header.
+    NoHeader = 11,
+}
+
+impl Refusal {
+    /// Every refusal, by number.
+    pub const ALL: [Refusal; 11] = [
+        Refusal::ForeignFormat,
+        Refusal::ShortBuffer,
+        Refusal::CutMaster,
+        Refusal::NotScarletBook,
+        Refusal::NewerEdition,
+        Refusal::NoArea,
+        Refusal::OddTable,
+        Refusal::NoSuchEntry,
+        Refusal::SetNotHeld,
+        Refusal::ShortPage,
+        Refusal::NoHeader,
+    ];
+
+    /// Its number, 1 to 11.
+    pub fn number(self) -> u8 {
+        self as u8
+    }
+
+    /// Its word.
+    pub fn word(self) -> &'static str {
+        match self {
+            Refusal::ForeignFormat => "foreign format",
+            Refusal::ShortBuffer => "short bench",
+            Refusal::CutMaster => "cut master",
+            Refusal::NotScarletBook => "not Scarlet Book",
+            Refusal::NewerEdition => "newer edition",
+            Refusal::NoArea => "silent disc",
+            Refusal::OddTable => "odd table",
+            Refusal::NoSuchEntry => "no such entry",
+            Refusal::SetNotHeld => "set not held",
+            Refusal::ShortPage => "short page",
+            Refusal::NoHeader => "no header",
+        }
+    }
+
+    /// The refusal of a number in an answer, where 0 is none.
+    ///
+    /// # Panics
+    ///
+    /// If no refusal has the number; the library gives none such.
+    pub fn check(number: u8) -> Result<(), Refusal> {
+        match number {
+            0 => Ok(()),
+            number => Err(Refusal::ALL[usize::from(number) - 1]),
+        }
+    }
+}
+
+/// As in `refused 4: not Scarlet Book`.
+impl fmt::Display for Refusal {
+    fn fmt(&self, f: &mut fmt::Formatter<'_>) -> fmt::Result {
+        write!(f, "refused {}: {}", self.number(), self.word())
+    }
+}
+
+impl Error for Refusal {}
+
+/// A reading that was refused. Refusal 6 ([`Refusal::NoArea`]) has what was read: a disc's master
+/// record and warnings, a lone table's warnings, without an area.
+#[derive(Clone, Debug)]
+pub struct Refused<T> {
+    pub(crate) refusal: Refusal,
+    pub(crate) silent: Option<Box<T>>,
+}
+
+impl<T> Refused<T> {
+    /// Why.
+    pub fn refusal(&self) -> Refusal {
+        self.refusal
+    }
+
+    /// What refusal 6 has.
+    pub fn silent(&self) -> Option<&T> {
+        self.silent.as_deref()
+    }
+}
+
+impl<T> fmt::Display for Refused<T> {
+    fn fmt(&self, f: &mut fmt::Formatter<'_>) -> fmt::Result {
+        self.refusal.fmt(f)
+    }
+}
+
+impl<T: fmt::Debug> Error for Refused<T> {}
+
+impl<T> From<Refused<T>> for Refusal {
+    fn from(refused: Refused<T>) -> Refusal {
+        refused.refusal
+    }
+}

@@ -1,0 +1,101 @@
+//! Warnings: what was met in a reading that did not refuse it.
+
+use std::fmt;
+
+/// A warning: its code, and the slot and the track that it is about.
+#[derive(Clone, Copy, Debug, PartialEq, Eq, Hash)]
+pub struct Warning {
+    pub code: WarningCode,
+    /// 1 or 2; 0 for a warning of the disc.
+    pub slot: u8,
+    /// The track's number; 0 for none.
+    pub track: u8,
+}
+
+impl Warning {
+    /// The warning of a word: code times 65,536 + slot times 256 + track.
+    ///
+    /// # Panics
+    ///
+    /// If no warning has the code; the library gives none such.
+    pub fn from_word(word: u32) -> Self {
+        let [_, code, slot, track] = word.to_be_bytes();
+        Warning { code: WarningCode::ALL[usize::from(code) - 1], slot, track }
+    }
+}
+
+/// In words, as in `area 1, track 3: starts outside the area`.
+impl fmt::Display for Warning {
+    fn fmt(&self, f: &mut fmt::Formatter<'_>) -> fmt::Result {
+        match (self.slot, self.track) {
+            (0, _) => write!(f, "disc: {}", self.code.words()),
+            (slot, 0) => write!(f, "area {slot}: {}", self.code.words()),
+            (slot, track) => write!(f, "area {slot}, track {track}: {}", self.code.words()),
+        }
+    }
+}
+
+macro_rules! codes {
+    ($($(#[doc = $words:literal])* $name:ident = $number:literal $code:literal,)*) => {
+        /// What a warning says, numbered in the order of the customer's `WarningCode`.
+        #[derive(Clone, Copy, Debug, PartialEq, Eq, Hash, PartialOrd, Ord)]
+        #[repr(u8)]
+        pub enum WarningCode {
+            $($(#[doc = $words])* $name = $number,)*
+        }
+
+        impl WarningCode {
+            /// Every code, by number.
+            pub const ALL: [WarningCode; 18] = [$(WarningCode::$name),*];
+
+            /// Its name in a catalogue, as the customer's Rust has it.
+            pub fn code(self) -> &'static str {
+                match self { $(WarningCode::$name => $code,)* }
+            }
+
+            /// What it says, in words.
+            pub fn words(self) -> &'static str {
+                match self { $(WarningCode::$name => concat!($($words),*).trim_ascii(),)* }
+            }
+        }
+    };
+}
+
+codes! {
+    /// no disc texts, though text channels are counted
+    MasterTextMissing = 1 "master-text-missing",
+    /// no manufacturer's sector
+    ManufacturerMissing = 2 "manufacturer-missing",
+    /// its table has more than 128 sectors; left out
+    AreaTocTooLarge = 3 "area-toc-too-large",
+    /// the first copy of its table cannot be read
+    AreaToc1Unreadable = 4 "area-toc1-unreadable",
+    /// the second copy of its table cannot be read
+    AreaToc2Unreadable = 5 "area-toc2-unreadable",
+    /// the two copies of its table differ
+    AreaTocCopiesDiffer = 6 "area-toc-copies-differ",
+    /// no copy of its table can be read; left out
+    AreaTocUnreadable = 7 "area-toc-unreadable",
+    /// its table begins with neither TWOCHTOC nor MULCHTOC; left out
+    AreaSignatureInvalid = 8 "area-signature-invalid",
+    /// its table has no list of tracks; left out
+    AreaTrackListMissing = 9 "area-track-list-missing",
+    /// its list of ISRCs and genres ends behind its table; left out
+    AreaTocMalformed = 10 "area-toc-malformed",
+    /// its audio ends before it starts; left out
+    AreaAudioRangeReversed = 11 "area-audio-range-reversed",
+    /// its texts are placed behind the table
+    TrackTextOffsetInvalid = 12 "track-text-offset-invalid",
+    /// has a text of an unknown type
+    TrackTextTypeUnknown = 13 "track-text-type-unknown",
+    /// ends after the area's play time; cut to it
+    TrackPastPlaytime = 14 "track-past-playtime",
+    /// starts outside the area's sectors
+    TrackLsnOutsideArea = 15 "track-lsn-outside-area",
+    /// a malformed audio sector
+    AudioSectorMalformed = 16 "audio-sector-malformed",
+    /// a copy of the master table differs
+    MasterTocCopiesDiffer = 17 "master-toc-copies-differ",
+    /// its sample frequency code is not that of DSD64
+    SampleFrequencyUnknown = 18 "sample-frequency-unknown",
+}
