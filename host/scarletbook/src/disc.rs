@@ -5,7 +5,6 @@ use crate::calls;
 use crate::item::DiscTextItem;
 use crate::record::{self, DISC_TRACKS, DISC_WORDS, REGIONS, SECTOR_SIZE, WORK_BYTES};
 use crate::refusal::{Refusal, Refused};
-use crate::sector::SectorFormat;
 use crate::warning::Warning;
 use std::borrow::Cow;
 
@@ -32,8 +31,11 @@ pub struct Disc<'m> {
 }
 
 impl Disc<'static> {
-    /// Reads a disc from an image, into memory of its own.
-    pub fn read(format: SectorFormat, image: &[u8]) -> Result<Self, Refused<Self>> {
+    /// Reads a disc from an image, into memory of its own. The format is a [`SectorFormat`] or its
+    /// number; any other number is refused by 1.
+    ///
+    /// [`SectorFormat`]: crate::SectorFormat
+    pub fn read(format: impl Into<u32>, image: &[u8]) -> Result<Self, Refused<Self>> {
         let mut work = vec![0; WORK_BYTES];
         let mut tracks = vec![record::Track::default(); DISC_TRACKS];
         let mut words = vec![0; DISC_WORDS];
@@ -45,7 +47,7 @@ impl Disc<'static> {
 impl<'m> Disc<'m> {
     /// Reads a disc from an image, into memory that is lent: refused by 2 if that is too small.
     pub fn read_in(
-        format: SectorFormat,
+        format: impl Into<u32>,
         image: &[u8],
         memory: Memory<'m>,
     ) -> Result<Self, Refused<Self>> {

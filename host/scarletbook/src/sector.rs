@@ -52,14 +52,14 @@ impl From<SectorFormat> for u32 {
 
 /// The fingerprint of a sector: FNV-1a, 64 bits, of its 2,048 data bytes. Refused by 8 if it is not
 /// in the image.
-pub fn fingerprint(format: SectorFormat, image: &[u8], lsn: u32) -> Result<u64, Refusal> {
+pub fn fingerprint(format: impl Into<u32>, image: &[u8], lsn: u32) -> Result<u64, Refusal> {
     let answer = calls::fingerprint(format, image, lsn);
     Refusal::check(answer.refusal).map(|()| answer.digest)
 }
 
 /// Whether the header of a sector is sound (ECMA-267). Refused by 11 unless sectors have 2,064
 /// bytes, by 8 if it is not in the image.
-pub fn audit(format: SectorFormat, image: &[u8], lsn: u32) -> Result<bool, Refusal> {
+pub fn audit(format: impl Into<u32>, image: &[u8], lsn: u32) -> Result<bool, Refusal> {
     let answer = calls::audit(format, image, lsn);
     Refusal::check(answer.refusal).map(|()| answer.sound == 1)
 }

@@ -1,0 +1,3 @@
+//! Presents what the library reads of an SACD image.
+
+pub mod dump;
