@@ -5,7 +5,9 @@ ghost use Prim.Native.Nat.{_*_, _%_, _^_};
 ghost use lib.ListN.{length};
 ghost use Rattle.area.specs.Cap.{capOf};
 ghost use Rattle.area.specs.Items.{drawAt};
+ghost use Rattle.area.specs.Limits.{tableBytes};
 ghost use Rattle.area.specs.Lone.{loneOf, loneAnswer, loneTracks, loneWords};
+ghost use Rattle.area.specs.Table.{headOf};
 ghost use Rattle.area.specs.TextDecode.{areaTextIn, trackTextBy, textAnswer, textPage};
 ghost use Rattle.area.specs.Timecode.{frameNumber};
 ghost use Rattle.disc.specs.Disc.{readDisc};
@@ -25,6 +27,7 @@ use area::area::Area;
 use area::cap::Capped;
 use area::items::Drawn;
 use area::lone::TableAnswer;
+use area::table::TableHead;
 use area::timecode::Frame;
 use area::timecode::Timecode;
 use area::track::Track;
@@ -264,6 +267,19 @@ pub extern "C" fn scarletbook_draw_at(table: &[u8], next: usize, left: usize) ->
     ensures { λ r. ⌜ r ≡ drawAnswer (drawAt (now (table .entry)) next left) ⌝ }
 {
     draw_answer(area::items::draw_at(table, next, left))
+}
+
+// Reads the head of a table of so many sectors, at the start of what is lent.
+#[no_mangle]
+pub extern "C" fn scarletbook_table_head(
+    table: &[u8],
+    slot: u8,
+    lsn: Lsn,
+    sectors: u16,
+) -> TableHead
+    ensures { λ r. ⌜ r ≡ headOf (tableBytes sectors (now (table .entry))) slot (lsn .0) sectors ⌝ }
+{
+    area::table::table_head(table, slot, lsn, sectors)
 }
 
 // Reads a lone table: its area's record, its tracks into a list of at least 255, its warnings into at least 766 words.
