@@ -4,6 +4,7 @@ pub mod Warning
 pub mod Refusal
 pub mod Copies
 pub mod Outcome
+pub mod Detect
 pub mod Disc
 pub mod Steps
 pub mod CopyLaws

@@ -19,6 +19,7 @@ use crate::copies::chosen_lsn;
 use crate::copies::first_readable;
 use crate::copies::second_readable;
 use crate::master::AreaPointer;
+use crate::master::MASTER_SIGNATURE;
 use crate::master::MASTER_TOC_LSN;
 use crate::master::MASTER_TOC_SECTORS;
 use crate::master::multichannel_pointer;
@@ -66,7 +67,7 @@ pub(crate) struct Fetched {
 fn master_refusal(sector: &[u8]) -> u8
     ensures { λ r. ⌜ r ≡ sectorRefusal (now (sector .entry)) ⌝ }
 {
-    if !has_signature(sector, 0, *b"SACDMTOC") {
+    if !has_signature(sector, 0, MASTER_SIGNATURE) {
         return NOT_SCARLET_BOOK;
     }
     if MAX_MAJOR_VERSION < byte_at(sector, MAJOR_VERSION_OFFSET) {

@@ -2,6 +2,7 @@
 pub mod answer;
 mod copies;
 pub mod decode;
+pub mod detect;
 pub mod disc;
 mod fetch;
 mod judge;

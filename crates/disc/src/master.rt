@@ -29,6 +29,9 @@ pub const MASTER_TOC_SECTORS: usize = 10;
 
 pub const MASTER_TOC_BYTES: usize = MASTER_TOC_SECTORS * SECTOR_SIZE;
 
+// What it begins with.
+pub(crate) const MASTER_SIGNATURE: [u8; 8] = *b"SACDMTOC";
+
 // Where the text channel count stands.
 pub(crate) const TEXT_CHANNELS_OFFSET: usize = 128;
 

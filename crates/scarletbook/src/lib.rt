@@ -10,6 +10,7 @@ ghost use Rattle.area.specs.Lone.{loneOf, loneAnswer, loneTracks, loneWords};
 ghost use Rattle.area.specs.Table.{headOf};
 ghost use Rattle.area.specs.TextDecode.{areaTextIn, trackTextBy, textAnswer, textPage};
 ghost use Rattle.area.specs.Timecode.{frameNumber};
+ghost use Rattle.disc.specs.Detect.{detected};
 ghost use Rattle.disc.specs.Disc.{readDisc};
 ghost use Rattle.disc.specs.TextDecode.{discTextIn, areaTextOn, trackTextAt};
 ghost use Rattle.sectors.specs.Audit.{SoundIn, auditOf};
@@ -32,6 +33,7 @@ use area::timecode::Frame;
 use area::timecode::Timecode;
 use area::track::Track;
 use disc::answer::DiscAnswer;
+use disc::detect::DetectAnswer;
 use disc::master::MasterToc;
 use sectors::fnv::FingerprintAnswer;
 use sectors::header::AuditAnswer;
@@ -292,6 +294,14 @@ pub extern "C" fn scarletbook_read_table(
     ensures { λ r. ⌜ (r ≡ loneAnswer (loneOf (now (table .entry)) (length (now (tracks .entry))) (length (now (words .entry))))) × ((now (tracks .exit) ≡ loneTracks (loneOf (now (table .entry)) (length (now (tracks .entry))) (length (now (words .entry)))) (now (tracks .entry))) × (now (words .exit) ≡ loneWords (loneOf (now (table .entry)) (length (now (tracks .entry))) (length (now (words .entry)))) (now (words .entry)))) ⌝ }
 {
     area::lone::read_table(table, tracks, words)
+}
+
+// The first format in which an image's master table begins at its place: plain, 2,064 bytes, 2,054 bytes; refused with 4 if none.
+#[no_mangle]
+pub extern "C" fn scarletbook_detect_format(image: &[u8]) -> DetectAnswer
+    ensures { λ r. ⌜ r ≡ detected (now (image .entry)) ⌝ }
+{
+    disc::detect::detect_format(image)
 }
 
 // Reads a disc from one lent image: its master record and the records of its areas, its tables into at least 544,768 work bytes, its

@@ -1,8 +1,9 @@
 -- Where a program finds a part of a stored sector. Assumes nothing.
-use Prim.Native.Nat.{ℕ, _+_, _*_, _-_, _≤_}
+use Prim.Native.Nat.{ℕ, zero, suc, _+_, _*_, _-_, _^_, _≤_, _<_}
 use mathlib.Core.Path.{_≡_, ap, _∙_}
 use mathlib.Core.Bool.{true}
 use mathlib.Core.List.{List}
+use native.Mathlib.Nat.{mul-le-mul-left}
 use native.Mathlib.Omega.{arith}
 use lib.ListN.{length, take, drop}
 use Rattle.sectors.specs.Fill.{part}
@@ -11,6 +12,14 @@ use Rattle.sectors.specs.Format.{layoutOf, storedSize, dataOffset}
 use Rattle.sectors.specs.Sector.{readable}
 use Rattle.sectors.specs.SectorLaws.{stored-inside}
 use Rattle.sectors.specs.declared.sector.Layout.{Layout}
+
+-- no format stores a sector in more than 2,064 bytes, or its data from behind the twelfth
+small : (format : ℕ) → (layoutOf format .stored ≤ 2064) × (layoutOf format .offset ≤ 12)
+unfolding layoutOf
+small zero = (omega arith, omega arith)
+small (suc zero) = (omega arith, omega arith)
+small (suc (suc zero)) = (omega arith, omega arith)
+small (suc (suc (suc n))) = (omega arith, omega arith)
 
 module _ (format : ℕ) (l : Layout) (e : l ≡ layoutOf format) where
   pub stored-is : l .stored ≡ storedSize format
@@ -32,3 +41,8 @@ module _ (format : ℕ) (l : Layout) (e : l ≡ layoutOf format) where
       ≡ part (n * storedSize format + offset) size image
   part-is image n offset size =
       slice-part (n * l .stored + offset) size image ∙ ap (λ (s : ℕ). part (n * s + offset) size image) stored-is
+
+  -- the data of a sector of any address begin at a number of eight bytes
+  pub place-fits : (lsn : ℕ) → lsn < 2 ^ 32 → lsn * l .stored + l .offset < 2 ^ 64
+  place-fits lsn low =
+      rw e (omega (arith, small format .0, small format .1, mul-le-mul-left lsn (small format .0)))

@@ -1,11 +1,12 @@
 -- Sectors of an image (01, "Sectors"). Assumes nothing.
 use Prim.Native.Nat.{ℕ, zero, suc, _+_, _*_, _/_}
-use mathlib.Core.Bool.{Bool, cond}
+use mathlib.Core.Bool.{Bool, cond, not, _&&_}
 use mathlib.Core.List.{List, [], _++_}
 use lib.Dec.{leb}
 use lib.ListN.{length}
 use Rattle.sectors.specs.Fill.{part}
-use Rattle.sectors.specs.Format.{storedSize, dataOffset, sectorSize}
+use Rattle.sectors.specs.Format.{foreign, storedSize, dataOffset, sectorSize}
+use Rattle.sectors.specs.Signature.{signedAt}
 
 -- "Whole sectors are length divided by stored size, rounded down." (The library divides by 0 to 0: a foreign format has no
 -- whole sector.)
@@ -29,3 +30,8 @@ dataStart format bytes lsn = cond (readable format bytes lsn 1) (lsn * storedSiz
 unfoldable pub runData : ℕ → List ℕ → ℕ → ℕ → List ℕ
 runData format image lsn zero = []
 runData format image lsn (suc count) = runData format image lsn count ++ sectorData format image (lsn + count)
+
+-- "LSN 510 doesn't begin `SACDMTOC`", of any sector and signature, whether the sector is whole or not: whether the signature's bytes stand
+-- where the sector's data begin; in no foreign format
+unfoldable pub beginsWith : ℕ → List ℕ → ℕ → List ℕ → Bool
+beginsWith format image lsn signature = not (foreign format) && signedAt image (lsn * storedSize format + dataOffset format) signature

@@ -6,7 +6,8 @@ ghost use denote.Ref.{ptr};
 ghost use lib.ListN.{length};
 ghost use Rattle.sectors.specs.Fill.{part, startAt};
 ghost use Rattle.sectors.specs.Format.{foreign, layoutOf, storedSize, dataOffset};
-ghost use Rattle.sectors.specs.Sector.{sectorCount, readable, sectorData, dataStart};
+ghost use Rattle.sectors.specs.Sector.{sectorCount, readable, sectorData, dataStart, beginsWith};
+use crate::signature::has_signature;
 
 // Bytes of data in a sector.
 pub const SECTOR_SIZE: usize = 2048;
@@ -113,4 +114,13 @@ pub fn sector_data<'a>(format: u32, image: &'a [u8], lsn: Lsn) -> &'a [u8]
         return stored_data(format, image, lsn.0 as usize);
     }
     &image[..0]
+}
+
+// Whether a signature stands where the data of a sector begin, whether the sector is whole or not; false in a foreign format.
+pub fn begins_with(format: u32, image: &[u8], lsn: Lsn, signature: [u8; 8]) -> bool
+    ensures { λ r. ⌜ r ≡ beginsWith format (now (image .entry)) (lsn .0) signature ⌝ }
+{
+    let layout = layout_of(format);
+    let place = lsn.0 as usize * layout.stored + layout.offset;
+    !is_foreign(format) & has_signature(image, place, signature)
 }
