@@ -4,6 +4,7 @@ use crate::calls;
 use crate::item::{AreaTextItem, TrackTextItem};
 use crate::record;
 use crate::refusal::Refusal;
+use std::fmt;
 use std::ops::Deref;
 
 /// The bytes of the longest text: 4,096 characters of two bytes each.
@@ -30,17 +31,24 @@ pub(crate) fn present<I: Copy>(
 }
 
 /// What decoding is lent: the memory of a disc reading, or a lone table and its list of tracks.
-#[derive(Clone, Copy, Debug)]
+#[derive(Clone, Copy)]
 pub(crate) enum Lent<'a> {
     Disc { work: &'a [u8], tracks: &'a [record::Track] },
     Table { table: &'a [u8], tracks: &'a [record::Track] },
 }
 
 /// An area; its fields are those of [`record::Area`].
-#[derive(Clone, Copy, Debug)]
+#[derive(Clone, Copy)]
 pub struct Area<'a> {
     pub(crate) record: &'a record::Area,
     pub(crate) lent: Lent<'a>,
+}
+
+/// Its record.
+impl fmt::Debug for Area<'_> {
+    fn fmt(&self, f: &mut fmt::Formatter<'_>) -> fmt::Result {
+        self.record.fmt(f)
+    }
 }
 
 impl Deref for Area<'_> {
@@ -73,7 +81,9 @@ impl<'a> Area<'a> {
     }
 
     /// Its tracks, in order.
-    pub fn tracks(&self) -> impl Iterator<Item = Track<'a>> + use<'a> {
+    pub fn tracks(
+        &self,
+    ) -> impl ExactSizeIterator<Item = Track<'a>> + DoubleEndedIterator + use<'a> {
         let area = *self;
         let (tracks, first) = match self.lent {
             Lent::Disc { tracks, .. } => (tracks, record::FIRST_TRACKS[self.at()]),
@@ -113,10 +123,30 @@ impl<'a> Area<'a> {
 }
 
 /// A track; its fields are those of [`record::Track`].
-#[derive(Clone, Copy, Debug)]
+///
+/// ```
+/// # mod small_disc { include!(concat!(env!("CARGO_MANIFEST_DIR"), "/examples/small_disc.rs")); }
+/// # let image = small_disc::plain();
+/// # let disc = scarletbook::Disc::read(0u32, &image)?;
+/// use scarletbook::{Refusal, TrackTextItem};
+///
+/// let track = disc.area(2).unwrap().track(1).unwrap();
+/// assert_eq!((track.number, track.start_lsn.0, track.length_sectors), (1, 1000, 100));
+/// assert_eq!(track.text(TrackTextItem::Performer), Ok(None));
+/// assert_eq!(track.text(TrackTextItem::Title), Err(Refusal::SetNotHeld));
+/// # Ok::<(), scarletbook::Refusal>(())
+/// ```
+#[derive(Clone, Copy)]
 pub struct Track<'a> {
     record: &'a record::Track,
     area: Area<'a>,
+}
+
+/// Its record.
+impl fmt::Debug for Track<'_> {
+    fn fmt(&self, f: &mut fmt::Formatter<'_>) -> fmt::Result {
+        self.record.fmt(f)
+    }
 }
 
 impl Deref for Track<'_> {
@@ -128,6 +158,11 @@ impl Deref for Track<'_> {
 }
 
 impl<'a> Track<'a> {
+    /// The area that it is of.
+    pub fn area(&self) -> Area<'a> {
+        self.area
+    }
+
     /// Its ISRC, if it has one.
     pub fn isrc(&self) -> Option<String> {
         (self.record.has_isrc == 1).then(|| self.record.isrc.to_string())

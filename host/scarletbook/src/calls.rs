@@ -123,6 +123,14 @@ unsafe extern "C" {
         page: *mut u8,
         page_len: usize,
     ) -> DecodeAnswer;
+    fn scarletbook_detect_format(image: *const u8, image_len: usize) -> DetectAnswer;
+    fn scarletbook_table_head(
+        table: *const u8,
+        table_len: usize,
+        slot: u8,
+        lsn: Lsn,
+        sectors: u16,
+    ) -> TableHead;
 }
 
 /// The whole sectors of an image of so many bytes; 0 for a foreign format.
@@ -472,44 +480,13 @@ pub fn decode_disc_track_text(
 
 /// The format in which LSN 510 begins `SACDMTOC`: the first of 0, 2 and 1. Refused by 4 if there is none.
 pub fn detect_format(image: &[u8]) -> DetectAnswer {
-    let found =
-        [(0, 2048, 0), (2, 2064, 12), (1, 2054, 6)].into_iter().find(|(_, stored, offset)| {
-            image.get(510 * stored + offset..).is_some_and(|rest| rest.starts_with(b"SACDMTOC"))
-        });
-    match found {
-        Some((sector_format, ..)) => DetectAnswer { refusal: 0, sector_format },
-        None => DetectAnswer { refusal: 4, sector_format: 0 },
-    }
+    // SAFETY: the pointer and length are those of a slice.
+    unsafe { scarletbook_detect_format(image.as_ptr(), image.len()) }
 }
 
-/// STAND-IN until the library exports it.
-pub fn table_head(table: &[u8], _slot: u8, _lsn: Lsn, _sectors: u16) -> TableHead {
-    let mut chain = Chain::default();
-    let mut p = 2048;
-    while p + 8 <= table.len() {
-        let step = match &table[p..p + 8] {
-            b"SACDTTxt" => {
-                if chain.ttxt == 0 {
-                    chain.ttxt = p as u32
-                };
-                1
-            }
-            b"SACDTRL1" => {
-                chain.trl1 = p as u32;
-                1
-            }
-            b"SACDTRL2" => {
-                chain.trl2 = p as u32;
-                1
-            }
-            b"SACD_IGL" => {
-                chain.igl = p as u32;
-                2
-            }
-            b"SACD_ACC" => 32,
-            _ => break,
-        };
-        p += step * 2048;
-    }
-    TableHead { chain, ..TableHead::default() }
+/// The head of a table of so many sectors (above 128 as 128) at the start of `table`: its area's record, with this slot,
+/// address and sector count, and where its sub-structures begin.
+pub fn table_head(table: &[u8], slot: u8, lsn: Lsn, sectors: u16) -> TableHead {
+    // SAFETY: the pointer and length are those of a slice.
+    unsafe { scarletbook_table_head(table.as_ptr(), table.len(), slot, lsn, sectors) }
 }

@@ -7,6 +7,7 @@ use crate::record::{self, DISC_TRACKS, DISC_WORDS, REGIONS, SECTOR_SIZE, WORK_BY
 use crate::refusal::{Refusal, Refused};
 use crate::warning::Warning;
 use std::borrow::Cow;
+use std::fmt;
 
 /// The sector of the master table that is the manufacturer's, and where its bytes begin there.
 const MANUFACTURER_SECTOR: usize = 9;
@@ -22,7 +23,7 @@ pub struct Memory<'m> {
 }
 
 /// A disc that was read, in memory of its own or in memory that was lent.
-#[derive(Clone, Debug)]
+#[derive(Clone)]
 pub struct Disc<'m> {
     answer: record::DiscAnswer,
     work: Cow<'m, [u8]>,
@@ -30,9 +31,29 @@ pub struct Disc<'m> {
     words: Cow<'m, [u32]>,
 }
 
+/// Without its memory.
+impl fmt::Debug for Disc<'_> {
+    fn fmt(&self, f: &mut fmt::Formatter<'_>) -> fmt::Result {
+        f.debug_struct("Disc").field("answer", &self.answer).finish_non_exhaustive()
+    }
+}
+
 impl Disc<'static> {
     /// Reads a disc from an image, into memory of its own. The format is a [`SectorFormat`] or its
     /// number; any other number is refused by 1.
+    ///
+    /// ```
+    /// # mod small_disc { include!(concat!(env!("CARGO_MANIFEST_DIR"), "/examples/small_disc.rs")); }
+    /// # let image = small_disc::plain();
+    /// use scarletbook::{Disc, SectorFormat, TrackTextItem};
+    ///
+    /// let disc = Disc::read(SectorFormat::detect(&image)?, &image)?;
+    /// let area = disc.area(1).unwrap();
+    /// let titles: Result<Vec<_>, _> =
+    ///     area.tracks().map(|track| track.text(TrackTextItem::Title)).collect();
+    /// assert_eq!(titles?, [Some("Overture".to_owned()), Some("Entr'acte été".to_owned())]);
+    /// # Ok::<(), scarletbook::Refusal>(())
+    /// ```
     ///
     /// [`SectorFormat`]: crate::SectorFormat
     pub fn read(format: impl Into<u32>, image: &[u8]) -> Result<Self, Refused<Self>> {
@@ -46,6 +67,23 @@ impl Disc<'static> {
 
 impl<'m> Disc<'m> {
     /// Reads a disc from an image, into memory that is lent: refused by 2 if that is too small.
+    ///
+    /// ```
+    /// # mod small_disc { include!(concat!(env!("CARGO_MANIFEST_DIR"), "/examples/small_disc.rs")); }
+    /// # let image = small_disc::plain();
+    /// use scarletbook::record::{DISC_TRACKS, DISC_WORDS, Track, WORK_BYTES};
+    /// use scarletbook::{Disc, Memory, SectorFormat};
+    ///
+    /// let mut work = vec![0; WORK_BYTES];
+    /// let mut tracks = vec![Track::default(); DISC_TRACKS];
+    /// let mut words = vec![0; DISC_WORDS];
+    /// for image in [&image, &image] {
+    ///     let memory = Memory { work: &mut work, tracks: &mut tracks, words: &mut words };
+    ///     let disc = Disc::read_in(SectorFormat::Plain, image, memory)?;
+    ///     assert_eq!(disc.areas().count(), 2);
+    /// }
+    /// # Ok::<(), scarletbook::Refusal>(())
+    /// ```
     pub fn read_in(
         format: impl Into<u32>,
         image: &[u8],
@@ -73,6 +111,11 @@ impl<'m> Disc<'m> {
         &self.answer.master
     }
 
+    /// The format it was read in, by number; 0 after refusal 6.
+    pub fn sector_format(&self) -> u32 {
+        self.answer.sector_format
+    }
+
     /// The whole sectors of the image; 0 after refusal 6.
     pub fn sectors(&self) -> usize {
         self.answer.sectors
@@ -92,7 +135,9 @@ impl<'m> Disc<'m> {
 
     /// The warnings, in order.
     pub fn warnings(&self) -> impl Iterator<Item = Warning> {
-        self.words[..self.answer.warnings].iter().map(|&word| Warning::from_word(word))
+        self.words[..self.answer.warnings]
+            .iter()
+            .map(|&word| Warning::from_word(word).expect("a word of the library"))
     }
 
     /// One of its texts, if there is one. Refused by 9 if its set is not held.
@@ -101,6 +146,16 @@ impl<'m> Disc<'m> {
     }
 
     /// All its texts that are there.
+    ///
+    /// ```
+    /// # mod small_disc { include!(concat!(env!("CARGO_MANIFEST_DIR"), "/examples/small_disc.rs")); }
+    /// # let image = small_disc::plain();
+    /// # let disc = scarletbook::Disc::read(0u32, &image)?;
+    /// for (item, text) in disc.texts() {
+    ///     assert_eq!((item.name(), text?.as_str()), ("album_title", "Café concert"));
+    /// }
+    /// # Ok::<(), scarletbook::Refusal>(())
+    /// ```
     pub fn texts(&self) -> impl Iterator<Item = (DiscTextItem, Result<String, Refusal>)> {
         present(DiscTextItem::ALL, |item| self.text(item))
     }

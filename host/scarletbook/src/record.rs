@@ -100,9 +100,9 @@ impl LanguageCode {
     }
 }
 
-/// The first `len` bytes; all, if they are fewer.
-fn front(bytes: &[u8], len: u8) -> &[u8] {
-    bytes.get(..usize::from(len)).unwrap_or(bytes)
+/// The first `len` elements; all, if they are fewer.
+fn front<T>(elements: &[T], len: u8) -> &[T] {
+    elements.get(..usize::from(len)).unwrap_or(elements)
 }
 
 /// A sector address.
@@ -188,6 +188,13 @@ pub struct Area {
     pub locales: [Locale; MAX_LOCALES],
     pub text_charset: u8,
     pub text: [TextPlace; AREA_TEXTS],
+}
+
+impl Area {
+    /// The locales that are listed.
+    pub fn locales(&self) -> &[Locale] {
+        front(&self.locales, self.locale_count)
+    }
 }
 
 /// Frame numbers of a track.
@@ -314,6 +321,13 @@ pub struct MasterToc {
     pub text: [TextPlace; DISC_TEXTS],
     /// 1 if sector 9 of the master table is the manufacturer's, else 0.
     pub manufacturer: u8,
+}
+
+impl MasterToc {
+    /// The locales that are listed.
+    pub fn locales(&self) -> &[Locale] {
+        front(&self.locales, self.locale_count)
+    }
 }
 
 /// The answer of [`read_disc`](crate::raw::read_disc).

@@ -69,15 +69,23 @@ impl Refusal {
         }
     }
 
-    /// The refusal of a number in an answer, where 0 is none.
+    /// The refusal of a number; nothing for 0 and above 11.
     ///
-    /// # Panics
+    /// ```
+    /// use scarletbook::{Refusal, raw};
     ///
-    /// If no refusal has the number; the library gives none such.
-    pub fn check(number: u8) -> Result<(), Refusal> {
+    /// let answer = raw::audit(0u32, &[], 0);
+    /// assert_eq!(Refusal::of_number(answer.refusal), Some(Refusal::NoHeader));
+    /// ```
+    pub fn of_number(number: u8) -> Option<Refusal> {
+        Refusal::ALL.into_iter().find(|refusal| refusal.number() == number)
+    }
+
+    /// The refusal of an answer, whose number is 0 for none.
+    pub(crate) fn check(number: u8) -> Result<(), Refusal> {
         match number {
             0 => Ok(()),
-            number => Err(Refusal::ALL[usize::from(number) - 1]),
+            number => Err(Refusal::of_number(number).expect("a number of the library")),
         }
     }
 }
@@ -93,7 +101,25 @@ impl Error for Refusal {}
 
 /// A reading that was refused. Refusal 6 ([`Refusal::NoArea`]) has what was read: a disc's master
 /// record and warnings, a lone table's warnings, without an area.
-#[derive(Clone, Debug)]
+///
+/// `?` makes it a [`Refusal`]. Where the error is a `Box<dyn Error>` and memory or a table is lent,
+/// `map_err(Refusal::from)` comes first, since the box must not borrow.
+///
+/// ```
+/// # mod small_disc { include!(concat!(env!("CARGO_MANIFEST_DIR"), "/examples/small_disc.rs")); }
+/// # let mut image = small_disc::plain();
+/// # small_disc::put_in(&mut image, 510, 84, &[0; 4]);
+/// use scarletbook::{Disc, DiscTextItem, Refusal, SectorFormat};
+///
+/// let refused = Disc::read(SectorFormat::Plain, &image).unwrap_err();
+/// assert_eq!(refused.refusal(), Refusal::NoArea);
+/// assert_eq!(refused.to_string(), "refused 6: silent disc");
+/// let disc = refused.silent().unwrap();
+/// assert_eq!(disc.text(DiscTextItem::AlbumTitle)?.as_deref(), Some("Café concert"));
+/// assert_eq!(disc.warnings().count(), 1);
+/// # Ok::<(), scarletbook::Refusal>(())
+/// ```
+#[derive(Clone)]
 pub struct Refused<T> {
     pub(crate) refusal: Refusal,
     pub(crate) silent: Option<Box<T>>,
@@ -109,6 +135,11 @@ impl<T> Refused<T> {
     pub fn silent(&self) -> Option<&T> {
         self.silent.as_deref()
     }
+
+    /// What refusal 6 has, by value.
+    pub fn into_silent(self) -> Option<T> {
+        self.silent.map(|silent| *silent)
+    }
 }
 
 impl<T> fmt::Display for Refused<T> {
@@ -117,7 +148,14 @@ impl<T> fmt::Display for Refused<T> {
     }
 }
 
-impl<T: fmt::Debug> Error for Refused<T> {}
+/// Without what refusal 6 has.
+impl<T> fmt::Debug for Refused<T> {
+    fn fmt(&self, f: &mut fmt::Formatter<'_>) -> fmt::Result {
+        f.debug_struct("Refused").field("refusal", &self.refusal).finish_non_exhaustive()
+    }
+}
+
+impl<T> Error for Refused<T> {}
 
 impl<T> From<Refused<T>> for Refusal {
     fn from(refused: Refused<T>) -> Refusal {

@@ -50,15 +50,33 @@ impl From<SectorFormat> for u32 {
     }
 }
 
-/// The fingerprint of a sector: FNV-1a, 64 bits, of its 2,048 data bytes. Refused by 8 if it is not
-/// in the image.
+/// The fingerprint of a sector: FNV-1a, 64 bits, of its 2,048 data bytes. Refused by 1 for a foreign
+/// format, by 8 if it is not in the image.
+///
+/// ```
+/// use scarletbook::{Refusal, SectorFormat, digest, fingerprint};
+///
+/// let image = vec![7; 2 * 2048];
+/// assert_eq!(fingerprint(SectorFormat::Plain, &image, 1), Ok(digest(&[7; 2048])));
+/// assert_eq!(fingerprint(SectorFormat::Plain, &image, 2), Err(Refusal::NoSuchEntry));
+/// ```
 pub fn fingerprint(format: impl Into<u32>, image: &[u8], lsn: u32) -> Result<u64, Refusal> {
     let answer = calls::fingerprint(format, image, lsn);
     Refusal::check(answer.refusal).map(|()| answer.digest)
 }
 
-/// Whether the header of a sector is sound (ECMA-267). Refused by 11 unless sectors have 2,064
-/// bytes, by 8 if it is not in the image.
+/// Whether the header of a sector is sound (ECMA-267). Refused by 1 for a foreign format, by 11
+/// unless sectors have 2,064 bytes, by 8 if it is not in the image.
+///
+/// ```
+/// use scarletbook::{SectorFormat, audit};
+///
+/// let mut image = vec![0; 2064];
+/// image[..6].copy_from_slice(&[0, 0, 0, 1, 3, 2]);
+/// assert_eq!(audit(SectorFormat::Raw2064, &image, 0), Ok(true));
+/// image[5] = 3;
+/// assert_eq!(audit(SectorFormat::Raw2064, &image, 0), Ok(false));
+/// ```
 pub fn audit(format: impl Into<u32>, image: &[u8], lsn: u32) -> Result<bool, Refusal> {
     let answer = calls::audit(format, image, lsn);
     Refusal::check(answer.refusal).map(|()| answer.sound == 1)

@@ -6,10 +6,11 @@ use crate::record::{self, MAX_TRACKS, TABLE_WORDS};
 use crate::refusal::{Refusal, Refused};
 use crate::warning::Warning;
 use std::borrow::Cow;
+use std::fmt;
 
 /// A lone table that was read as slot 1 with address 0, its tracks in memory of its own or in memory
 /// that was lent.
-#[derive(Clone, Debug)]
+#[derive(Clone)]
 pub struct Table<'m> {
     answer: record::TableAnswer,
     table: &'m [u8],
@@ -17,8 +18,27 @@ pub struct Table<'m> {
     words: Cow<'m, [u32]>,
 }
 
+/// Without its memory.
+impl fmt::Debug for Table<'_> {
+    fn fmt(&self, f: &mut fmt::Formatter<'_>) -> fmt::Result {
+        f.debug_struct("Table").field("answer", &self.answer).finish_non_exhaustive()
+    }
+}
+
 impl<'m> Table<'m> {
     /// Reads a table of whole sectors, 128 at most, into memory of its own.
+    ///
+    /// ```
+    /// # mod small_disc { include!(concat!(env!("CARGO_MANIFEST_DIR"), "/examples/small_disc.rs")); }
+    /// # let image = small_disc::plain();
+    /// # let bytes = &image[540 * 2048..547 * 2048];
+    /// use scarletbook::Table;
+    ///
+    /// let table = Table::read(bytes)?;
+    /// let area = table.area().unwrap();
+    /// assert_eq!(area.track(2).unwrap().isrc().as_deref(), Some("JPABC2600002"));
+    /// # Ok::<(), scarletbook::Refusal>(())
+    /// ```
     pub fn read(table: &'m [u8]) -> Result<Self, Refused<Self>> {
         let mut tracks = vec![record::Track::default(); MAX_TRACKS];
         let mut words = vec![0; TABLE_WORDS];
@@ -57,7 +77,9 @@ impl<'m> Table<'m> {
 
     /// The warnings, in order.
     pub fn warnings(&self) -> impl Iterator<Item = Warning> {
-        self.words[..self.answer.warnings].iter().map(|&word| Warning::from_word(word))
+        self.words[..self.answer.warnings]
+            .iter()
+            .map(|&word| Warning::from_word(word).expect("a word of the library"))
     }
 }
 
@@ -70,6 +92,14 @@ pub struct TextItem<'a> {
 
 /// The items of a track's text, drawn one by one from a table, a place and a count of items, empty
 /// and unknown ones included.
+///
+/// ```
+/// use scarletbook::Items;
+///
+/// let table = b"\x01\0Title\0\x02\0Performer\0";
+/// let items: Vec<_> = Items::new(table, 0, 2).map(|item| (item.kind, item.bytes)).collect();
+/// assert_eq!(items, [(1, &b"Title"[..]), (2, b"Performer")]);
+/// ```
 #[derive(Clone, Debug)]
 pub struct Items<'a> {
     table: &'a [u8],

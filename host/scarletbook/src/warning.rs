@@ -13,18 +13,24 @@ pub struct Warning {
 }
 
 impl Warning {
-    /// The warning of a word: code times 65,536 + slot times 256 + track.
+    /// The warning of a word, code times 65,536 + slot times 256 + track; nothing if no warning has
+    /// the code.
     ///
-    /// # Panics
+    /// ```
+    /// use scarletbook::Warning;
     ///
-    /// If no warning has the code; the library gives none such.
-    pub fn from_word(word: u32) -> Self {
-        let [_, code, slot, track] = word.to_be_bytes();
-        Warning { code: WarningCode::ALL[usize::from(code) - 1], slot, track }
+    /// let warning = Warning::from_word(15 * 65_536 + 256 + 3).unwrap();
+    /// assert_eq!(warning.to_string(), "area 1, track 3: starts outside the area's sectors");
+    /// assert_eq!(Warning::from_word(0), None);
+    /// ```
+    pub fn from_word(word: u32) -> Option<Self> {
+        let [_, number, slot, track] = word.to_be_bytes();
+        let code = WarningCode::ALL.into_iter().find(|code| code.number() == number)?;
+        Some(Warning { code, slot, track })
     }
 }
 
-/// In words, as in `area 1, track 3: starts outside the area`.
+/// In words, as in `area 1, track 3: starts outside the area's sectors`.
 impl fmt::Display for Warning {
     fn fmt(&self, f: &mut fmt::Formatter<'_>) -> fmt::Result {
         match (self.slot, self.track) {
@@ -47,6 +53,11 @@ macro_rules! codes {
         impl WarningCode {
             /// Every code, by number.
             pub const ALL: [WarningCode; 18] = [$(WarningCode::$name),*];
+
+            /// Its number, 1 to 18.
+            pub fn number(self) -> u8 {
+                self as u8
+            }
 
             /// Its name in a catalogue, as the customer's Rust has it.
             pub fn code(self) -> &'static str {

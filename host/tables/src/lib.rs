@@ -1,3 +1,16 @@
-//! Presents what the library reads of an SACD image.
+//! Presents what the library reads of an SACD image: the dump, the JSON, the listing, and lines about
+//! every sector. Every value comes from a call of the library; presentation alone is here.
 
+#![deny(unsafe_code)]
+
+pub mod arguments;
 pub mod dump;
+pub mod fields;
+pub mod json;
+pub mod listing;
+#[allow(unsafe_code)]
+pub mod map;
+pub mod reading;
+pub mod report;
+pub mod sample;
+pub mod sectors;

@@ -1,0 +1,229 @@
+/*
+ * Calls every function of scarletbook.h: once for an answer that is known, and once with no memory at all
+ * (NULL and 0). Prints the checks that failed, then how many there were.
+ */
+#include "scarletbook.h"
+
+#include <stdio.h>
+#include <string.h>
+
+static unsigned checks, faults;
+
+static void check(int holds, const char *what, int line)
+{
+    checks++;
+    if (!holds) {
+        printf("line %d: %s\n", line, what);
+        faults++;
+    }
+}
+
+#define CHECK(what) check((what) != 0, #what, __LINE__)
+
+#define MASTER 510
+#define TABLE 540
+#define SECTORS 543
+
+static uint8_t image[SECTORS * SCARLETBOOK_SECTOR_SIZE];
+static uint8_t work[SCARLETBOOK_WORK_BYTES];
+static scarletbook_track tracks[SCARLETBOOK_TRACK_RECORDS];
+static uint32_t words[SCARLETBOOK_WARNING_WORDS];
+static uint8_t page[SCARLETBOOK_PAGE_BYTES];
+
+static void put(uint8_t *at, const char *bytes, size_t count)
+{
+    memcpy(at, bytes, count);
+}
+
+/* The document's example of a table, 3 sectors, with a text of the area. */
+static void make_table(uint8_t *table)
+{
+    put(table, "TWOCHTOC", 8);
+    table[20] = 4;
+    table[64] = 1;
+    table[69] = 1;
+    put(table + 72, "\0\0\3\350\0\0\7\320", 8);
+    put(table + 144, "\7\0", 2);
+    put(table + 1792, "Area", 4);
+    put(table + 2048, "SACDTRL1\0\0\3\350", 12);
+    put(table + 3076, "\0\0\1\364", 4);
+    put(table + 4096, "SACDTRL2", 8);
+    put(table + 5124, "\1\0\1", 3);
+}
+
+/* A plain image with a text of the disc; slot 2 has the table, its second copy past the end. */
+static void make_image(void)
+{
+    uint8_t *master = image + MASTER * SCARLETBOOK_SECTOR_SIZE;
+    put(master, "SACDMTOC\1\24", 10);
+    put(master + 72, "\0\0\2\34\0\0\2\35", 8);
+    put(master + 86, "\0\3", 2);
+    put(master + 2048, "SACDText", 8);
+    put(master + 2048 + 16 + 2 * SCARLETBOOK_DISC_TITLE, "\4\0", 2);
+    put(master + 2048 + 1024, "Disc \351", 6);
+    make_table(image + TABLE * SCARLETBOOK_SECTOR_SIZE);
+}
+
+static void discs(void)
+{
+    make_image();
+    scarletbook_detect_answer format = scarletbook_detect_format(image, sizeof image);
+    CHECK(format.refusal == 0 && format.sector_format == SCARLETBOOK_PLAIN);
+    scarletbook_disc_answer disc =
+        scarletbook_read_disc(SCARLETBOOK_PLAIN, image, sizeof image, work, sizeof work, tracks,
+                              SCARLETBOOK_TRACK_RECORDS, words, SCARLETBOOK_WARNING_WORDS);
+    CHECK(disc.refusal == 0 && disc.warnings == 4 && disc.sector_format == 0 && disc.sectors == SECTORS);
+    CHECK(disc.two_channel.present == 0 && disc.multichannel.present == 1);
+    CHECK(disc.multichannel.origin.slot == 2 && disc.multichannel.origin.toc_lsn == TABLE);
+    CHECK(scarletbook_warning_code(words[0]) == SCARLETBOOK_MASTER_TOC_COPIES_DIFFER);
+    CHECK(scarletbook_warning_code(words[2]) == SCARLETBOOK_AREA_TOC2_UNREADABLE);
+    CHECK(scarletbook_warning_code(words[3]) == SCARLETBOOK_TRACK_PAST_PLAYTIME);
+    CHECK(scarletbook_warning_slot(words[3]) == 2 && scarletbook_warning_track(words[3]) == 1);
+    CHECK(tracks[SCARLETBOOK_MULTICHANNEL_FIRST].start_lsn == 1000);
+    CHECK(memcmp(work + SCARLETBOOK_MULTICHANNEL_REGION, "TWOCHTOC", 8) == 0);
+    CHECK(memcmp(work + SCARLETBOOK_MASTER_REGION, "SACDMTOC", 8) == 0);
+    scarletbook_decode_answer text =
+        scarletbook_decode_disc_text(work, sizeof work, disc.master, SCARLETBOOK_DISC_TITLE, page, sizeof page);
+    CHECK(text.refusal == 0 && text.len == 7 && memcmp(page, "Disc \303\251", 7) == 0);
+    text = scarletbook_decode_disc_area_text(work, sizeof work, disc.multichannel, SCARLETBOOK_AREA_DESCRIPTION,
+                                             page, sizeof page);
+    CHECK(text.refusal == 0 && text.len == 4 && memcmp(page, "Area", 4) == 0);
+    tracks[SCARLETBOOK_MULTICHANNEL_FIRST].text[SCARLETBOOK_TRACK_MESSAGE].place = 1793;
+    text = scarletbook_decode_disc_track_text(work, sizeof work, disc.multichannel, tracks,
+                                              SCARLETBOOK_TRACK_RECORDS, 1, SCARLETBOOK_TRACK_MESSAGE, page,
+                                              sizeof page);
+    CHECK(text.refusal == 0 && text.len == 3 && memcmp(page, "rea", 3) == 0);
+}
+
+static void lone_tables(void)
+{
+    const uint8_t *table = image + TABLE * SCARLETBOOK_SECTOR_SIZE;
+    const size_t size = 3 * SCARLETBOOK_SECTOR_SIZE;
+    scarletbook_table_answer read =
+        scarletbook_read_table(table, size, tracks, SCARLETBOOK_TABLE_TRACKS, words, SCARLETBOOK_TABLE_WORDS);
+    CHECK(read.refusal == 0 && read.warnings == 1 && read.area.track_count == 1);
+    CHECK(words[0] == 14u * 65536u + 256u + 1u && tracks[0].times.duration_frames == 4500);
+    CHECK(tracks[0].start_lsn == 1000 && tracks[0].length_sectors == 500);
+    scarletbook_decode_answer text =
+        scarletbook_decode_area_text(table, size, read.area, SCARLETBOOK_AREA_DESCRIPTION, page, sizeof page);
+    CHECK(text.refusal == 0 && text.len == 4);
+    tracks[0].text[SCARLETBOOK_TRACK_MESSAGE].place = 1794;
+    text = scarletbook_decode_track_text(table, size, read.area, tracks, SCARLETBOOK_TABLE_TRACKS, 1,
+                                         SCARLETBOOK_TRACK_MESSAGE, page, sizeof page);
+    CHECK(text.refusal == 0 && text.len == 2 && memcmp(page, "ea", 2) == 0);
+    scarletbook_table_head_record head = scarletbook_table_head(table, size, 2, 77, 3);
+    CHECK(head.skip == 0 && head.area.origin.slot == 2 && head.area.origin.toc_lsn == 77);
+    CHECK(head.area.origin.toc_sectors == 3 && head.chain.trl1 == 2048 && head.chain.trl2 == 4096);
+    CHECK(head.chain.ttxt == 0 && head.chain.igl == 0);
+    static const uint8_t items[] = "\1\0One\0\2\0Two";
+    scarletbook_draw_answer item = scarletbook_draw_at(items, sizeof items - 1, 0, 5);
+    CHECK(item.found == 1 && item.kind == 1 && item.place == 2 && item.len == 3);
+    CHECK(item.next == 6 && item.left == 4);
+}
+
+static void sectors(void)
+{
+    const uint32_t format = SCARLETBOOK_RAW2064;
+    static uint8_t raw[3 * 2064];
+    static uint8_t data[SCARLETBOOK_SECTOR_SIZE + 2];
+    put(raw + 2 * 2064, "\0\0\0\1\3\2", 6);
+    put(raw + 2 * 2064 + 12, "data", 4);
+    CHECK(scarletbook_sector_count(format, sizeof raw) == 3);
+    CHECK(scarletbook_contains(format, sizeof raw, 2, 1) && !scarletbook_contains(format, sizeof raw, 1, 3));
+    CHECK(scarletbook_read_sectors(format, raw, sizeof raw, 2, 1, data, sizeof data, 2) == 0);
+    CHECK(memcmp(data, "\0\0data\0", 7) == 0);
+    CHECK(scarletbook_read_sectors(format, raw, sizeof raw, 2, 1, data, sizeof data, 3) == SCARLETBOOK_SHORT_BENCH);
+    CHECK(scarletbook_compare_sectors(format, raw, sizeof raw, 2, 1, data + 2, sizeof data - 2).equal == 1);
+    CHECK(scarletbook_compare_sectors(format, raw, sizeof raw, 1, 1, data + 2, sizeof data - 2).equal == 0);
+    CHECK(scarletbook_audit(format, raw, sizeof raw, 2).sound == 1);
+    CHECK(scarletbook_audit(SCARLETBOOK_PLAIN, raw, sizeof raw, 2).refusal == SCARLETBOOK_NO_HEADER);
+    CHECK(scarletbook_fingerprint(format, raw, sizeof raw, 2).digest == scarletbook_digest(data + 2, sizeof data - 2));
+    CHECK(scarletbook_fingerprint(format, raw, sizeof raw, 3).refusal == SCARLETBOOK_NO_SUCH_ENTRY);
+    CHECK(scarletbook_digest((const uint8_t *)"foobar", 6) == UINT64_C(0x85944171f73967e8));
+    CHECK(scarletbook_wrapping_mul(UINT64_C(0x8000000000000001), 3) == UINT64_C(0x8000000000000003));
+}
+
+static void parts_of_tables(void)
+{
+    static const uint8_t bytes[] = {1, 2, 3, 'a', 0xe9, 0};
+    static const uint8_t field[] = " A1 \0xyz";
+    scarletbook_timecode time = {1, 2, 3};
+    CHECK(scarletbook_byte_at(bytes, sizeof bytes, 2) == 3 && scarletbook_byte_at(bytes, sizeof bytes, 6) == 0);
+    CHECK(scarletbook_be16_at(bytes, sizeof bytes, 1) == 0x0203);
+    CHECK(scarletbook_be32_at(bytes, sizeof bytes, 0) == 0x01020361);
+    CHECK(scarletbook_string_length(bytes, sizeof bytes, 3) == 2);
+    CHECK(scarletbook_charset(8) == 0 && scarletbook_charset(11) == 3);
+    scarletbook_decode_answer text = scarletbook_decode(bytes + 3, 2, 2, page, 3);
+    CHECK(text.refusal == 0 && text.len == 3 && memcmp(page, "a\303\251", 3) == 0);
+    static uint8_t longest[4096];
+    memset(longest, 0xe9, sizeof longest);
+    CHECK(scarletbook_decode(longest, sizeof longest, 2, page, sizeof page).len == SCARLETBOOK_PAGE_BYTES);
+    CHECK(scarletbook_decode(bytes + 3, 2, 3, page, 3).refusal == SCARLETBOOK_SET_NOT_HELD);
+    CHECK(scarletbook_decode(bytes + 3, 2, 2, page, 2).refusal == SCARLETBOOK_SHORT_PAGE);
+    scarletbook_fixed_text_record fixed = scarletbook_fixed_bytes(field, 8);
+    CHECK(fixed.len == 4 && memcmp(fixed.bytes, " A1 \0\0\0\0", 8) == 0);
+    fixed = scarletbook_fixed_text(field, 8);
+    CHECK(fixed.len == 2 && memcmp(fixed.bytes, "A1\0\0", 4) == 0);
+    scarletbook_language_code language = scarletbook_language('f', ' ');
+    CHECK(language.len == 1 && language.bytes[0] == 'f' && language.bytes[1] == 0);
+    CHECK(scarletbook_frame_number(time) == 4653);
+    scarletbook_cap_answer cap = scarletbook_cap(4400, 101, 4500);
+    CHECK(cap.start_frame == 4400 && cap.duration_frames == 100 && cap.past_playtime == 1);
+}
+
+/* The readings and decodings with no memory. */
+static void no_memory(void)
+{
+    scarletbook_master_toc master;
+    scarletbook_area area;
+    memset(&master, 0, sizeof master);
+    memset(&area, 0, sizeof area);
+    area.present = 1;
+    area.origin.slot = 1;
+    area.track_count = 1;
+    CHECK(scarletbook_detect_format(NULL, 0).refusal == SCARLETBOOK_NOT_SCARLET_BOOK);
+    CHECK(scarletbook_read_disc(0, NULL, 0, NULL, 0, NULL, 0, NULL, 0).refusal == SCARLETBOOK_SHORT_BENCH);
+    CHECK(scarletbook_read_disc(0, NULL, 0, work, sizeof work, tracks, SCARLETBOOK_TRACK_RECORDS, words,
+                                SCARLETBOOK_WARNING_WORDS).refusal == SCARLETBOOK_CUT_MASTER);
+    CHECK(scarletbook_decode_disc_text(NULL, 0, master, 0, NULL, 0).refusal == SCARLETBOOK_SHORT_BENCH);
+    CHECK(scarletbook_decode_disc_text(work, sizeof work, master, 0, NULL, 0).refusal == 0);
+    CHECK(scarletbook_decode_disc_area_text(NULL, 0, area, 0, NULL, 0).refusal == SCARLETBOOK_SHORT_BENCH);
+    CHECK(scarletbook_decode_disc_track_text(NULL, 0, area, NULL, 0, 1, 0, NULL, 0).refusal ==
+          SCARLETBOOK_SHORT_BENCH);
+    CHECK(scarletbook_read_table(NULL, 0, NULL, 0, NULL, 0).refusal == SCARLETBOOK_ODD_TABLE);
+    CHECK(scarletbook_decode_area_text(NULL, 0, area, 0, NULL, 0).refusal == 0);
+    CHECK(scarletbook_decode_track_text(NULL, 0, area, NULL, 0, 1, 0, NULL, 0).refusal == SCARLETBOOK_SHORT_BENCH);
+    CHECK(scarletbook_table_head(NULL, 0, 1, 0, 1).skip == SCARLETBOOK_AREA_SIGNATURE_INVALID);
+    CHECK(scarletbook_draw_at(NULL, 0, 0, 1).found == 0);
+}
+
+/* The other functions with no memory. */
+static void no_bytes(void)
+{
+    CHECK(scarletbook_read_sectors(0, NULL, 0, 0, 0, NULL, 0, 0) == 0);
+    CHECK(scarletbook_read_sectors(0, NULL, 0, 0, 1, page, sizeof page, 0) == SCARLETBOOK_NO_SUCH_ENTRY);
+    CHECK(scarletbook_compare_sectors(0, NULL, 0, 0, 0, NULL, 0).equal == 1);
+    CHECK(scarletbook_audit(SCARLETBOOK_RAW2064, NULL, 0, 0).refusal == SCARLETBOOK_NO_SUCH_ENTRY);
+    CHECK(scarletbook_fingerprint(0, NULL, 0, 0).refusal == SCARLETBOOK_NO_SUCH_ENTRY);
+    CHECK(scarletbook_digest(NULL, 0) == UINT64_C(0xcbf29ce484222325));
+    CHECK(scarletbook_byte_at(NULL, 0, 0) == 0);
+    CHECK(scarletbook_be16_at(NULL, 0, 0) == 0);
+    CHECK(scarletbook_be32_at(NULL, 0, 0) == 0);
+    CHECK(scarletbook_string_length(NULL, 0, 0) == 0);
+    CHECK(scarletbook_decode(NULL, 0, 2, NULL, 0).len == 0);
+    CHECK(scarletbook_decode(page, 1, 2, NULL, 0).refusal == SCARLETBOOK_SHORT_PAGE);
+    CHECK(scarletbook_fixed_bytes(NULL, 0).len == 0);
+    CHECK(scarletbook_fixed_text(NULL, 0).len == 0);
+}
+
+int main(void)
+{
+    discs();
+    lone_tables();
+    sectors();
+    parts_of_tables();
+    no_memory();
+    no_bytes();
+    printf("%u checks\n", checks);
+    return faults != 0;
+}

@@ -1,0 +1,422 @@
+//! The safe interface, on a small disc.
+
+#[allow(dead_code)]
+#[path = "../examples/small_disc.rs"]
+mod small_disc;
+
+use scarletbook::record::{self, Chain, Lsn, SECTOR_SIZE, Timecode};
+use scarletbook::{
+    AreaTextItem, Disc, DiscTextItem, Items, Memory, Refusal, Refused, SectorFormat, Table,
+    TextItem, TrackTextItem, Warning, WarningCode,
+};
+use small_disc::{area_table, plain, put, put_in, stored};
+use std::error::Error;
+
+const MASTER: usize = 510;
+
+fn read(image: &[u8]) -> Disc<'static> {
+    Disc::read(SectorFormat::Plain, image).expect("accepted")
+}
+
+/// The small disc with other tables, in both slots and with one copy each.
+fn disc_of(table: &[u8]) -> Vec<u8> {
+    let sectors = (table.len() / SECTOR_SIZE) as u16;
+    let mut image = plain();
+    let lsn = image.len() / SECTOR_SIZE;
+    image.extend_from_slice(table);
+    let pointer = (lsn as u32).to_be_bytes();
+    let slots = [&pointer[..], &[0; 4], &pointer, &[0; 4]].concat();
+    put_in(&mut image, MASTER, 64, &slots);
+    put_in(&mut image, MASTER, 84, &[sectors.to_be_bytes(), sectors.to_be_bytes()].concat());
+    image
+}
+
+/// The small disc without an area.
+fn silent_disc() -> Vec<u8> {
+    let mut image = plain();
+    put_in(&mut image, MASTER, 84, &[0; 4]);
+    image
+}
+
+struct Lent {
+    work: Vec<u8>,
+    tracks: Vec<record::Track>,
+    words: Vec<u32>,
+}
+
+fn lent(work: usize, tracks: usize, words: usize) -> Lent {
+    let tracks = vec![record::Track { number: 9, ..Default::default() }; tracks];
+    Lent { work: vec![9; work], tracks, words: vec![9; words] }
+}
+
+impl Lent {
+    fn memory(&mut self) -> Memory<'_> {
+        Memory { work: &mut self.work, tracks: &mut self.tracks, words: &mut self.words }
+    }
+
+    fn is_untouched(&self) -> bool {
+        self.work.iter().all(|&byte| byte == 9)
+            && self.tracks.iter().all(|track| track.number == 9 && track.start_lsn == Lsn(0))
+            && self.words.iter().all(|&word| word == 9)
+    }
+}
+
+#[test]
+fn the_small_disc_in_every_format() {
+    for format in SectorFormat::ALL {
+        let image = stored(format, &plain());
+        assert_eq!(SectorFormat::detect(&image), Ok(format));
+        let disc = Disc::read(format, &image).expect("accepted");
+        assert_eq!(disc.sectors(), 570);
+        assert_eq!(format.sector_count(image.len()), 570);
+        assert_eq!(disc.master().album_catalog_number.to_string(), "ABC-1");
+        assert_eq!(disc.master().album_catalog_number_stored.to_string(), " ABC-1");
+        assert_eq!(disc.master().date, record::Date { year: 2026, month: 11, day: 16 });
+        assert_eq!(disc.master().locales[0].language.to_string(), "en");
+        assert_eq!(disc.manufacturer(), Some(&[0; 2040][..]));
+        let slots: Vec<_> = disc.areas().map(|area| (area.slot(), area.kind)).collect();
+        assert_eq!(slots, [(1, 1), (2, 2)]);
+    }
+}
+
+#[test]
+fn an_area_and_its_tracks() {
+    let image = plain();
+    let disc = read(&image);
+    let area = disc.area(1).expect("slot 1");
+    assert_eq!((area.origin.toc_lsn, area.track_count), (Lsn(540), 2));
+    assert_eq!(area.playtime, Timecode { minutes: 5, seconds: 0, frames: 0 });
+    assert_eq!(area.table(), &image[540 * SECTOR_SIZE..547 * SECTOR_SIZE]);
+    assert_eq!(area.chain(), Chain { ttxt: 2048, trl1: 4096, trl2: 6144, igl: 8192 });
+    let numbers: Vec<_> = area.tracks().map(|track| (track.number, track.start_lsn)).collect();
+    assert_eq!(numbers, [(1, Lsn(1000)), (2, Lsn(1100))]);
+    let second = area.track(2).expect("track 2");
+    assert_eq!(second.isrc().as_deref(), Some("JPABC2600002"));
+    assert_eq!(second.genre(), Some(record::Genre { category: 1, index: 7 }));
+    assert_eq!((second.times.start_frame.0, second.times.duration_frames.0), (75, 75));
+    assert!(area.track(0).is_none() && area.track(3).is_none());
+    assert!(disc.area(0).is_none() && disc.area(3).is_none());
+}
+
+#[test]
+fn texts_that_are_there() {
+    let disc = read(&plain());
+    let texts: Vec<_> = disc.texts().collect();
+    assert_eq!(texts, [(DiscTextItem::AlbumTitle, Ok("Café concert".to_owned()))]);
+    assert_eq!(disc.text(DiscTextItem::DiscTitle), Ok(None));
+    let [first, second] = [1, 2].map(|slot| disc.area(slot).expect("both slots"));
+    assert_eq!(first.texts().count(), 0);
+    assert_eq!(first.text(AreaTextItem::Copyright), Ok(None));
+    let title = first.track(2).expect("track 2").text(TrackTextItem::Title);
+    assert_eq!(title, Ok(Some("Entr'acte été".to_owned())));
+    let track = second.track(1).expect("track 1");
+    assert_eq!(track.text(TrackTextItem::Title), Err(Refusal::SetNotHeld));
+    assert_eq!(track.text(TrackTextItem::Performer), Ok(None));
+    let texts: Vec<_> = track.texts().collect();
+    assert_eq!(texts, [(TrackTextItem::Title, Err(Refusal::SetNotHeld))]);
+}
+
+#[test]
+fn warnings_in_words() {
+    let disc = read(&plain());
+    let warnings: Vec<_> = disc.warnings().map(|warning| warning.to_string()).collect();
+    assert_eq!(
+        warnings,
+        [
+            "disc: a copy of the master table differs",
+            "area 2, track 1: starts outside the area's sectors",
+        ]
+    );
+    let words = Warning { code: WarningCode::AreaTocUnreadable, slot: 2, track: 0 }.to_string();
+    assert_eq!(words, "area 2: no copy of its table can be read; left out");
+    for (code, number) in WarningCode::ALL.into_iter().zip(1..) {
+        assert_eq!(code as u32, number);
+    }
+}
+
+#[test]
+fn lent_memory_holds_what_own_memory_does() {
+    let image = plain();
+    let mut lent = lent(544_769, 511, 1538);
+    let disc = Disc::read_in(0u32, &image, lent.memory()).expect("accepted");
+    let own = read(&image);
+    assert_eq!((disc.master(), disc.sectors()), (own.master(), own.sectors()));
+    assert!(disc.warnings().eq(own.warnings()) && disc.texts().eq(own.texts()));
+    for (area, other) in disc.areas().zip(own.areas()) {
+        assert_eq!((*area, area.table()), (*other, other.table()));
+        assert!(area.tracks().map(|track| *track).eq(other.tracks().map(|track| *track)));
+        assert!(area.tracks().zip(other.tracks()).all(|(a, b)| a.texts().eq(b.texts())));
+    }
+    assert_eq!((lent.work[544_768], lent.words[2], lent.tracks[510].number), (9, 9, 9));
+}
+
+#[test]
+fn memory_that_is_too_small() {
+    let image = plain();
+    for (work, tracks, words) in
+        [(544_767, 510, 1537), (544_768, 509, 1537), (544_768, 510, 1536), (0, 0, 0)]
+    {
+        let mut lent = lent(work, tracks, words);
+        let read = Disc::read_in(SectorFormat::Plain, &image, lent.memory());
+        let refused = read.expect_err("refused");
+        assert_eq!(refused.refusal(), Refusal::ShortBuffer);
+        assert!(refused.silent().is_none());
+        assert!(lent.is_untouched());
+    }
+}
+
+fn refusal_of(format: u32, image: &[u8]) -> Refusal {
+    let refused = Disc::read(format, image).expect_err("refused");
+    assert_eq!(refused.silent().is_some(), refused.refusal() == Refusal::NoArea);
+    assert_eq!(refused.to_string(), refused.refusal().to_string());
+    refused.into()
+}
+
+#[test]
+fn refusals_of_a_disc() {
+    let image = plain();
+    assert_eq!(refusal_of(3, &image), Refusal::ForeignFormat);
+    assert_eq!(refusal_of(u32::MAX, &[]), Refusal::ForeignFormat);
+    assert_eq!(refusal_of(0, &[]), Refusal::CutMaster);
+    assert_eq!(refusal_of(0, &image[..520 * SECTOR_SIZE - 1]), Refusal::CutMaster);
+    assert_eq!(refusal_of(1, &image), Refusal::NotScarletBook);
+    let mut newer = image.clone();
+    put_in(&mut newer, MASTER, 8, &[2]);
+    assert_eq!(refusal_of(0, &newer), Refusal::NewerEdition);
+    assert_eq!(refusal_of(0, &image[..520 * SECTOR_SIZE]), Refusal::NoArea);
+}
+
+#[test]
+fn a_silent_disc_has_its_master_record_and_warnings() {
+    let mut lent = lent(544_768, 510, 1537);
+    let image = silent_disc();
+    for refused in [
+        Disc::read(0u32, &image).expect_err("refused"),
+        Disc::read_in(0u32, &image, lent.memory()).expect_err("refused"),
+    ] {
+        assert_eq!(refused.refusal(), Refusal::NoArea);
+        let disc = refused.silent().expect("a silent disc");
+        assert_eq!(disc.text(DiscTextItem::AlbumTitle), Ok(Some("Café concert".to_owned())));
+        assert_eq!(disc.master().album_catalog_number.text(), b"ABC-1");
+        assert_eq!((disc.areas().count(), disc.sectors()), (0, 0));
+        assert!(disc.area(1).is_none());
+        assert_eq!(disc.manufacturer().map(<[u8]>::len), Some(2040));
+        let codes: Vec<_> = disc.warnings().map(|warning| warning.code).collect();
+        assert_eq!(codes, [WarningCode::MasterTocCopiesDiffer]);
+    }
+}
+
+#[test]
+fn the_largest_tables() {
+    let titles = vec![&b"Title"[..]; 255];
+    let table = area_table(b"MULCHTOC", 1, &titles, 128);
+    let disc = read(&disc_of(&table));
+    assert_eq!(disc.areas().count(), 2);
+    let lone = Table::read(&table).expect("accepted");
+    for area in disc.areas().chain(lone.area()) {
+        assert_eq!(area.table(), table);
+        assert_eq!(area.chain().igl, 8192);
+        assert!(area.tracks().map(|track| track.number).eq(1..=255));
+        let last = area.track(255).expect("track 255");
+        assert_eq!(last.isrc().as_deref(), Some("JPABC2600255"));
+        assert_eq!(last.text(TrackTextItem::Title), Ok(Some("Title".to_owned())));
+        assert!(area.tracks().all(|track| track.texts().count() == 1));
+    }
+}
+
+#[test]
+fn an_area_without_tracks() {
+    let table = area_table(b"TWOCHTOC", 1, &[], 7);
+    let disc = read(&disc_of(&table));
+    let area = disc.area(2).expect("slot 2");
+    assert_eq!((area.kind, area.tracks().count()), (1, 0));
+    assert!(area.track(1).is_none());
+}
+
+#[test]
+fn a_lone_table() {
+    let bytes = area_table(b"TWOCHTOC", 1, &[b"One", b"Two"], 7);
+    let (mut tracks, mut words) = (vec![record::Track::default(); 255], vec![9; 766]);
+    for table in [Table::read(&bytes), Table::read_in(&bytes, &mut tracks, &mut words)] {
+        let table = table.expect("accepted");
+        assert_eq!(table.warnings().count(), 0);
+        let area = table.area().expect("an area");
+        assert_eq!((area.slot(), area.origin.toc_lsn, area.table()), (1, Lsn(0), &bytes[..]));
+        let title = |number| area.track(number)?.text(TrackTextItem::Title).ok()?;
+        assert_eq!(title(2).as_deref(), Some("Two"));
+        assert_eq!(area.texts().count(), 0);
+    }
+    let refused = Table::read_in(&bytes, &mut tracks[1..], &mut words).expect_err("refused");
+    assert_eq!(refused.refusal(), Refusal::ShortBuffer);
+    assert!(refused.silent().is_none());
+}
+
+#[test]
+fn a_lone_table_that_is_refused() {
+    for bytes in [0, 1, 2047, 2049, 129 * SECTOR_SIZE] {
+        let table = vec![0; bytes];
+        let refused = Table::read(&table).expect_err("refused");
+        assert_eq!((refused.refusal(), refused.silent().is_some()), (Refusal::OddTable, false));
+    }
+    let table = vec![0; 128 * SECTOR_SIZE];
+    let refused = Table::read(&table).expect_err("refused");
+    let silent = refused.silent().expect("a silent table");
+    let warning = Warning { code: WarningCode::AreaSignatureInvalid, slot: 1, track: 0 };
+    assert!(silent.area().is_none() && silent.warnings().eq([warning]));
+}
+
+#[test]
+fn items_drawn_one_by_one() {
+    let table = b"\x01\0One\0\x09\0\0\x02\0Two";
+    let items: Vec<_> = Items::new(table, 0, 9).collect();
+    let item = |kind, bytes| TextItem { kind, bytes };
+    assert_eq!(items, [item(1, &b"One"[..]), item(9, b""), item(2, b"Two")]);
+    assert_eq!(Items::new(table, 0, 2).count(), 2);
+    let mut drawn = Items::new(table, 0, usize::MAX);
+    assert_eq!(drawn.by_ref().count(), 3);
+    assert_eq!(drawn.next(), None);
+    for place in [13, 14, usize::MAX] {
+        assert_eq!(Items::new(table, place, usize::MAX).next(), None);
+    }
+    assert_eq!(Items::new(&[], 0, 1).next(), None);
+}
+
+#[test]
+fn numbers_and_words_of_refusals() {
+    let words = [
+        "foreign format",
+        "short bench",
+        "cut master",
+        "not Scarlet Book",
+        "newer edition",
+        "silent disc",
+        "odd table",
+        "no such entry",
+        "set not held",
+        "short page",
+        "no header",
+    ];
+    assert_eq!(Refusal::ALL.map(Refusal::word), words);
+    for (refusal, number) in Refusal::ALL.into_iter().zip(1..) {
+        assert_eq!(refusal.number(), number);
+        assert_eq!(refusal.to_string(), format!("refused {number}: {}", refusal.word()));
+    }
+}
+
+#[test]
+fn refusals_are_errors() {
+    fn boxed(image: &[u8]) -> Result<usize, Box<dyn Error>> {
+        Ok(Disc::read(SectorFormat::detect(image)?, image)?.sectors())
+    }
+    fn plain_refusal(table: &[u8]) -> Result<bool, Refusal> {
+        Ok(Table::read(table)?.area().is_some())
+    }
+    assert_eq!(boxed(&plain()).expect("accepted"), 570);
+    let words = |image: &[u8]| boxed(image).expect_err("refused").to_string();
+    assert_eq!(words(&[]), "refused 4: not Scarlet Book");
+    assert_eq!(words(&silent_disc()), "refused 6: silent disc");
+    assert_eq!(plain_refusal(&[]), Err(Refusal::OddTable));
+    let refused: Refused<Disc> = Disc::read(9u32, &[]).expect_err("refused");
+    assert_eq!(refused.clone().refusal(), Refusal::ForeignFormat);
+}
+
+#[test]
+fn what_is_printed_for_debugging_leaves_memory_out() {
+    let disc = read(&plain());
+    let area = disc.area(1).expect("slot 1");
+    let refused = Disc::read(0u32, &silent_disc()).expect_err("refused");
+    assert_eq!(format!("{refused:?}"), "Refused { refusal: NoArea, .. }");
+    let track = area.track(1).expect("track 1");
+    let printed = [format!("{disc:?}"), format!("{area:?}"), format!("{track:?}")];
+    assert!(printed.iter().all(|text| text.len() < 20_000));
+}
+
+#[test]
+fn small_conveniences() {
+    let disc = read(&plain());
+    let area = disc.area(1).expect("slot 1");
+    assert_eq!((area.tracks().len(), area.locales().len()), (2, 1));
+    assert_eq!(area.tracks().next_back().expect("track 2").area().slot(), 1);
+    assert_eq!(disc.master().locales()[0].charset, 2);
+    let silent = Disc::read(0u32, &silent_disc()).err().and_then(Refused::into_silent);
+    assert_eq!(silent.expect("a silent disc").warnings().count(), 1);
+    let numbers = [0, 1, 11, 12].map(Refusal::of_number);
+    assert_eq!(numbers, [None, Some(Refusal::ForeignFormat), Some(Refusal::NoHeader), None]);
+    assert_eq!(WarningCode::ALL.map(WarningCode::number)[17], 18);
+}
+
+#[test]
+fn formats_and_their_detection() {
+    let formats = [SectorFormat::Plain, SectorFormat::Raw2054, SectorFormat::Raw2064];
+    for (format, number) in formats.into_iter().zip(0..) {
+        assert_eq!((format.number(), u32::from(format)), (number, number));
+        assert_eq!(SectorFormat::of_number(number), Ok(format));
+    }
+    assert_eq!(SectorFormat::ALL, formats);
+    assert_eq!(SectorFormat::of_number(3), Err(Refusal::ForeignFormat));
+    let mut image = vec![0; 511 * 2064];
+    assert_eq!(SectorFormat::detect(&image), Err(Refusal::NotScarletBook));
+    for (at, format) in [
+        (510 * 2054 + 6, SectorFormat::Raw2054),
+        (510 * 2064 + 12, SectorFormat::Raw2064),
+        (510 * 2048, SectorFormat::Plain),
+    ] {
+        put(&mut image, at, b"SACDMTOC");
+        assert_eq!(SectorFormat::detect(&image), Ok(format));
+    }
+}
+
+#[test]
+fn fingerprints_and_headers() {
+    let image = plain();
+    let raw = stored(SectorFormat::Raw2064, &image);
+    let sector = &image[MASTER * SECTOR_SIZE..][..SECTOR_SIZE];
+    let fingerprint = scarletbook::fingerprint(SectorFormat::Raw2064, &raw, 510);
+    assert_eq!(fingerprint, Ok(scarletbook::digest(sector)));
+    assert_eq!(scarletbook::fingerprint(0u32, &image, 570), Err(Refusal::NoSuchEntry));
+    assert_eq!(scarletbook::fingerprint(7u32, &image, 0), Err(Refusal::ForeignFormat));
+    assert_eq!(scarletbook::audit(SectorFormat::Raw2064, &raw, 0), Ok(true));
+    assert_eq!(scarletbook::audit(SectorFormat::Raw2064, &raw, 570), Err(Refusal::NoSuchEntry));
+    assert_eq!(scarletbook::audit(SectorFormat::Raw2054, &raw, 0), Err(Refusal::NoHeader));
+    assert_eq!(scarletbook::audit(3u32, &raw, 0), Err(Refusal::ForeignFormat));
+}
+
+/// Asks everything that there is to ask of a disc, and counts the answers.
+fn ask_all(disc: &Disc) -> usize {
+    let mut answers =
+        disc.texts().count() + disc.warnings().map(|w| w.to_string().len()).sum::<usize>();
+    answers += disc.manufacturer().map_or(0, <[u8]>::len);
+    for area in disc.areas() {
+        answers += area.texts().count() + area.table().len() + area.chain().trl1 as usize;
+        for track in area.tracks() {
+            answers += track.texts().count() + track.isrc().map_or(0, |isrc| isrc.len());
+            answers += usize::from(track.genre().is_some());
+        }
+    }
+    answers
+}
+
+#[test]
+fn no_damaged_disc_panics() {
+    let sound = disc_of(&area_table(b"TWOCHTOC", 1, &[b"One", b"Two", b"Three"], 8));
+    let mut state = 1u64;
+    let mut below = |bound: usize| {
+        state =
+            state.wrapping_mul(6_364_136_223_846_793_005).wrapping_add(1_442_695_040_888_963_407);
+        (state >> 33) as usize % bound
+    };
+    let (mut accepted, mut silent) = (0, 0);
+    for _ in 0..400 {
+        let mut image = sound.clone();
+        for _ in 0..below(12) {
+            let lsn = [MASTER, MASTER + 1, 570, 571, 572, 573, 576][below(7)];
+            let at = [below(150), below(SECTOR_SIZE)][below(2)];
+            image[lsn * SECTOR_SIZE + at] = [0, 1, 255, below(256) as u8][below(4)];
+        }
+        match Disc::read(SectorFormat::Plain, &image) {
+            Ok(disc) => accepted += usize::from(ask_all(&disc) > 0),
+            Err(refused) => silent += refused.silent().map_or(0, |disc| ask_all(disc).min(1)),
+        }
+    }
+    assert!(accepted > 100 && silent > 10, "{accepted} accepted, {silent} silent");
+}

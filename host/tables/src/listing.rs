@@ -1,0 +1,222 @@
+//! The listing of a disc, for a person.
+
+use crate::fields::Text;
+use crate::reading::Reading;
+use scarletbook::raw::frame_number;
+use scarletbook::record::{Date, Frame, MasterToc};
+use scarletbook::{Area, Disc, DiscTextItem, Track, TrackTextItem};
+
+/// Frames in a second.
+const FRAME_RATE: u32 = 75;
+/// The flag of a disc with a CD layer.
+const HYBRID: u8 = 0x80;
+/// Longer cells of a column do not widen it.
+const WIDEST: usize = 40;
+/// The columns before this one are numbers and times.
+const FIRST_TEXT: usize = 3;
+
+/// The lines about a disc; none where there is no disc.
+pub fn listing(reading: Reading) -> String {
+    let Some(disc) = reading.disc else { return String::new() };
+    let mut out = heads(reading, disc);
+    for area in disc.areas() {
+        out += &format!("\n{}\n", area_head(&area));
+        out += &table(&tracks(&area));
+    }
+    let warnings: Vec<_> = disc.warnings().map(|warning| format!("  {warning}\n")).collect();
+    if !warnings.is_empty() {
+        out += &format!("\nWarnings\n{}", warnings.concat());
+    }
+    out
+}
+
+/// The lines about the disc as a whole: a name and a value each, without the empty ones.
+fn heads(reading: Reading, disc: &Disc) -> String {
+    let master = disc.master();
+    let text = |item| shown(Text::new(disc.text(item), master.text_charset));
+    let lines = [
+        ("Format", format!("{} ({})", reading.format, sector_size(reading.format))),
+        ("Sectors", reading.sectors.to_string()),
+        ("Album", text(DiscTextItem::AlbumTitle)),
+        ("Album artist", text(DiscTextItem::AlbumArtist)),
+        ("Album catalogue", printable(&master.album_catalog_number.to_string())),
+        ("Disc", text(DiscTextItem::DiscTitle)),
+        ("Disc artist", text(DiscTextItem::DiscArtist)),
+        ("Disc catalogue", printable(&master.disc_catalog_number.to_string())),
+        ("Album set", place_in_set(master)),
+        ("Date", date(master.date)),
+        ("Hybrid", if master.disc_flags & HYBRID != 0 { "yes" } else { "no" }.to_owned()),
+    ];
+    let lines = lines.iter().filter(|(_, value)| !value.is_empty());
+    lines.map(|(name, value)| format!("{name:<17}{value}\n")).collect()
+}
+
+fn sector_size(format: u32) -> &'static str {
+    match format {
+        0 => "2,048 bytes a sector",
+        1 => "2,054 bytes a sector",
+        _ => "2,064 bytes a sector",
+    }
+}
+
+fn place_in_set(master: &MasterToc) -> String {
+    match (master.album_sequence_number, master.album_set_size) {
+        (0, 0) => String::new(),
+        (number, size) => format!("disc {number} of {size}"),
+    }
+}
+
+fn date(date: Date) -> String {
+    match date {
+        Date { year: 0, month: 0, day: 0 } => String::new(),
+        Date { year, month, day } => format!("{year:04}-{month:02}-{day:02}"),
+    }
+}
+
+fn area_head(area: &Area) -> String {
+    let kind = if area.kind == 1 { "two-channel" } else { "multichannel" };
+    let tracks = match area.track_count {
+        1 => "1 track".to_owned(),
+        count => format!("{count} tracks"),
+    };
+    let (layout, playtime) = (layout(area), time(frame_number(area.playtime)));
+    format!("Area {} ({kind}): {layout}, play time {playtime}, {tracks}", area.slot())
+}
+
+/// The layout of the loudspeakers.
+fn layout(area: &Area) -> String {
+    match (area.channel_count, area.area_config & 7) {
+        (2, 0) => "stereo".to_owned(),
+        (5, 3) => "5 channels (3/2)".to_owned(),
+        (6, 4) => "5.1".to_owned(),
+        (1, _) => "1 channel".to_owned(),
+        (channels, _) => format!("{channels} channels"),
+    }
+}
+
+/// The lines of an area's tracks, by column, under the names of the columns.
+fn tracks(area: &Area) -> Vec<Vec<String>> {
+    let names = ["Track", "Start", "Duration", "Title", "Performer", "ISRC"];
+    let mut rows = vec![names.map(String::from).to_vec()];
+    rows.extend(area.tracks().map(|track| row(area, &track)));
+    rows
+}
+
+fn row(area: &Area, track: &Track) -> Vec<String> {
+    let text = |item| shown(Text::new(track.text(item), area.text_charset));
+    vec![
+        track.number.to_string(),
+        time(track.times.start_frame),
+        time(track.times.duration_frames),
+        text(TrackTextItem::Title),
+        text(TrackTextItem::Performer),
+        track.isrc().map(|isrc| printable(&isrc)).unwrap_or_default(),
+    ]
+}
+
+/// Rows under a head, their columns aligned: numbers and times to the right, texts to the left.
+/// A column that is empty under its head is left out.
+fn table(rows: &[Vec<String>]) -> String {
+    let Some((head, below)) = rows.split_first() else { return String::new() };
+    let used = |&column: &usize| below.iter().any(|row| !row[column].is_empty());
+    let columns = (0..head.len()).filter(used).map(|column| (column, width(rows, column)));
+    let columns: Vec<_> = columns.collect();
+    let mut out = String::new();
+    for row in rows.iter().filter(|_| !below.is_empty()) {
+        let cells = columns.iter().map(|&(column, width)| match column {
+            ..FIRST_TEXT => format!("  {:>width$}", row[column]),
+            _ => format!("  {:<width$}", row[column]),
+        });
+        out += cells.collect::<String>().trim_end();
+        out.push('\n');
+    }
+    out
+}
+
+/// The characters of a column's longest cell.
+fn width(rows: &[Vec<String>], column: usize) -> usize {
+    let widths = rows.iter().map(|row| row[column].chars().count());
+    widths.filter(|&width| width <= WIDEST).max().unwrap_or(0)
+}
+
+/// A frame number as minutes, seconds and frames: mm:ss.ff.
+fn time(frame: Frame) -> String {
+    let (seconds, frames) = (frame.0 / FRAME_RATE, frame.0 % FRAME_RATE);
+    format!("{:02}:{:02}.{frames:02}", seconds / 60, seconds % 60)
+}
+
+/// A text as it is shown; empty if it is absent.
+fn shown(text: Text) -> String {
+    match text {
+        Text::Absent => String::new(),
+        Text::Decoded(text) => printable(&text),
+        Text::NotHeld(set) => format!("(set {set}, not held)"),
+    }
+}
+
+/// A text without control characters, which a terminal might obey: U+FFFD stands for each.
+pub fn printable(text: &str) -> String {
+    text.replace(char::is_control, "\u{fffd}")
+}
+
+#[cfg(test)]
+mod tests {
+    use super::*;
+
+    fn at(frame: u32) -> String {
+        time(Frame(frame))
+    }
+
+    #[test]
+    fn times_are_minutes_seconds_and_frames() {
+        assert_eq!([0, 1, 74, 75].map(at), ["00:00.00", "00:00.01", "00:00.74", "00:01.00"]);
+        assert_eq!([4499, 4500].map(at), ["00:59.74", "01:00.00"]);
+        assert_eq!([449_999, 450_000].map(at), ["99:59.74", "100:00.00"]);
+        assert_eq!(at(1_166_880), "259:18.30");
+    }
+
+    #[test]
+    fn no_control_character_is_shown() {
+        for control in ('\0'..' ').chain('\u{7f}'..'\u{a0}') {
+            assert_eq!(printable(&format!("a{control}b")), "a\u{fffd}b");
+        }
+        assert_eq!(printable("Prélude ~\u{a0}ÿ"), "Prélude ~\u{a0}ÿ");
+    }
+
+    #[test]
+    fn columns_are_aligned_by_characters() {
+        let row = |cells: [&str; 6]| cells.map(String::from).to_vec();
+        let long = "x".repeat(WIDEST + 1);
+        let rows = [
+            row(["Track", "Start", "Duration", "Title", "Performer", "ISRC"]),
+            row(["1", "00:00.00", "100:00.00", "Été", "", "A"]),
+            row(["255", "00:00.00", "00:00.00", "Rondo", "", ""]),
+            row(["3", "", "", &long, "", "B"]),
+        ];
+        let lines = [
+            "  Track     Start   Duration  Title  ISRC\n",
+            "      1  00:00.00  100:00.00  Été    A\n",
+            "    255  00:00.00   00:00.00  Rondo\n",
+            &format!("      3                       {long}  B\n"),
+        ];
+        assert_eq!(table(&rows), lines.concat());
+        assert_eq!(table(&rows[..1]), "");
+    }
+
+    #[test]
+    fn a_date_of_zeros_and_an_album_without_discs_are_left_out() {
+        assert_eq!(date(Date { year: 0, month: 0, day: 0 }), "");
+        assert_eq!(date(Date { year: 2003, month: 7, day: 1 }), "2003-07-01");
+        assert_eq!(place_in_set(&MasterToc::default()), "");
+        let second =
+            MasterToc { album_sequence_number: 2, album_set_size: 3, ..MasterToc::default() };
+        assert_eq!(place_in_set(&second), "disc 2 of 3");
+    }
+
+    #[test]
+    fn a_text_of_a_set_that_is_not_held_is_named() {
+        assert_eq!(shown(Text::NotHeld(3)), "(set 3, not held)");
+        assert_eq!(shown(Text::Absent), "");
+        assert_eq!(shown(Text::Decoded("\u{1b}[2J".into())), "\u{fffd}[2J");
+    }
+}

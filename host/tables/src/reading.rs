@@ -1,0 +1,31 @@
+//! What a reading gave.
+
+use scarletbook::raw::sector_count;
+use scarletbook::{Disc, Refusal, Refused};
+
+/// A disc, or why it was refused. Refusal 6 has both: a disc without areas.
+#[derive(Clone, Copy, Debug)]
+pub struct Reading<'a> {
+    pub refusal: Option<Refusal>,
+    pub disc: Option<&'a Disc<'a>>,
+    pub format: u32,
+    /// The whole sectors of the image in this format.
+    pub sectors: usize,
+}
+
+impl<'a> Reading<'a> {
+    /// What reading an image in a format gave.
+    pub fn new(format: u32, image: &[u8], read: &'a Result<Disc, Refused<Disc>>) -> Self {
+        let sectors = sector_count(format, image.len());
+        let (refusal, disc) = match read {
+            Ok(disc) => (None, Some(disc)),
+            Err(refused) => (Some(refused.refusal()), refused.silent()),
+        };
+        Reading { refusal, disc, format, sectors }
+    }
+
+    /// An image that is refused without being read.
+    pub fn refused(refusal: Refusal) -> Self {
+        Reading { refusal: Some(refusal), disc: None, format: 0, sectors: 0 }
+    }
+}

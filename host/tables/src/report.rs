@@ -1,0 +1,138 @@
+//! Lines on standard output, and how far the work is on standard error.
+
+use std::fmt::Arguments;
+use std::io::{self, BufWriter, IsTerminal, Stderr, StdoutLock, Write};
+use std::time::{Duration, Instant};
+
+/// The least time between two updates.
+const PAUSE: Duration = Duration::from_millis(250);
+/// Takes the cursor to the line's start and clears the line.
+pub const ERASE: &str = "\r\x1b[K";
+
+/// Lines, and a percentage if someone can see it.
+pub struct Report<W, E: Write> {
+    out: W,
+    progress: Option<Progress<E>>,
+    /// Whether the lines go to the terminal that shows the percentage.
+    shared: bool,
+}
+
+impl Report<BufWriter<StdoutLock<'static>>, Stderr> {
+    /// Lines on standard output. The percentage is on standard error if that is a terminal; where
+    /// many lines fill the same terminal there is none.
+    pub fn new(many: bool) -> Self {
+        let (out, error) = (io::stdout(), io::stderr());
+        let shared = out.is_terminal() && error.is_terminal();
+        let seen = error.is_terminal() && !(many && shared);
+        let progress = seen.then(|| Progress { error, next: Instant::now() + PAUSE, shown: false });
+        Report { out: BufWriter::with_capacity(1 << 16, out.lock()), progress, shared }
+    }
+}
+
+impl<W: Write, E: Write> Report<W, E> {
+    pub fn line(&mut self, line: Arguments) -> io::Result<()> {
+        let shared = self.progress.as_mut().filter(|_| self.shared);
+        if let Some(progress) = shared {
+            progress.erase();
+            writeln!(self.out, "{line}")?;
+            return self.out.flush();
+        }
+        writeln!(self.out, "{line}")
+    }
+
+    /// So many parts of all are done.
+    pub fn done(&mut self, done: usize, all: usize) {
+        let progress = self.progress.as_mut();
+        if let Some(progress) = progress.filter(|progress| Instant::now() >= progress.next) {
+            progress.show(done as u128 * 100 / all as u128);
+        }
+    }
+
+    /// Clears the percentage, and writes what is held back.
+    pub fn end(mut self) -> io::Result<()> {
+        self.progress = None;
+        self.out.flush()
+    }
+}
+
+/// A percentage on a terminal, cleared when it is dropped. No one can be told if writing it fails.
+struct Progress<E: Write> {
+    error: E,
+    /// When it may be shown again.
+    next: Instant,
+    shown: bool,
+}
+
+impl<E: Write> Progress<E> {
+    fn show(&mut self, percent: u128) {
+        let _ = write!(self.error, "\r{percent:3} %").and_then(|()| self.error.flush());
+        self.next = Instant::now() + PAUSE;
+        self.shown = true;
+    }
+
+    fn erase(&mut self) {
+        if self.shown {
+            let _ = write!(self.error, "{ERASE}").and_then(|()| self.error.flush());
+        }
+        self.shown = false;
+    }
+}
+
+impl<E: Write> Drop for Progress<E> {
+    fn drop(&mut self) {
+        self.erase();
+    }
+}
+
+/// Writes to standard error in one piece; no one can be told if that fails.
+pub fn write_error(text: Arguments) {
+    let _ = io::stderr().write_all(text.to_string().as_bytes());
+}
+
+#[cfg(test)]
+mod tests {
+    use super::*;
+    use std::cell::RefCell;
+
+    /// A terminal that several write to.
+    struct Terminal<'a>(&'a RefCell<String>);
+
+    impl Write for Terminal<'_> {
+        fn write(&mut self, bytes: &[u8]) -> io::Result<usize> {
+            self.0.borrow_mut().push_str(str::from_utf8(bytes).map_err(io::Error::other)?);
+            Ok(bytes.len())
+        }
+
+        fn flush(&mut self) -> io::Result<()> {
+            Ok(())
+        }
+    }
+
+    fn shown(shared: bool) -> (String, String) {
+        let (lines, errors) = (RefCell::default(), RefCell::default());
+        let out = BufWriter::new(Terminal(&lines));
+        let error = Terminal(if shared { &lines } else { &errors });
+        let progress = Progress { error, next: Instant::now(), shown: false };
+        let mut report = Report { out, progress: Some(progress), shared };
+        report.line(format_args!("first")).expect("a terminal takes it");
+        report.done(1, 3);
+        // It is too early for this one.
+        report.done(2, 3);
+        report.line(format_args!("second")).expect("a terminal takes it");
+        report.line(format_args!("third")).expect("a terminal takes it");
+        report.end().expect("a terminal takes it");
+        (lines.into_inner(), errors.into_inner())
+    }
+
+    #[test]
+    fn lines_and_the_percentage_on_one_terminal_do_not_mix() {
+        let lines = "first\n\r 33 %\r\x1b[Ksecond\nthird\n".to_owned();
+        assert_eq!(shown(true), (lines, String::new()));
+    }
+
+    #[test]
+    fn the_percentage_is_cleared_in_the_end() {
+        let lines = "first\nsecond\nthird\n".to_owned();
+        assert_eq!(shown(false), (lines, "\r 33 %\r\x1b[K".to_owned()));
+    }
+}
