@@ -1,17 +1,25 @@
-//! Compares the static library with the customer's Rust, in one process.
+//! Compares the static library, and the dumps of `tables`, with the customer's Rust, in one process.
 //!
-//! Exit status: 0 all answers are equal; 1 some differ; 2 bad usage, or a class of cases is
-//! empty or too small, so that the comparison would say nothing about it.
+//! Exit status: 0 all answers are equal; 1 some differ; 2 bad usage, a file or the command `tables`
+//! that fails, or a class of cases is empty or too small, so that the comparison would say nothing
+//! about it.
 
+mod command;
+mod coverage;
 mod cuts;
 mod disc;
 mod draws;
 mod extent;
 mod fields;
+mod guard;
 mod headers;
+mod heads;
 mod lone;
+mod noise;
 mod numbers;
+mod options;
 mod plain;
+mod progress;
 mod rust;
 mod sectors;
 mod shapes;
@@ -19,6 +27,7 @@ mod strings;
 mod tables;
 mod tally;
 mod texts;
+mod threads;
 mod times;
 mod values;
 
@@ -28,8 +37,10 @@ use fields::Fields;
 use generate::Rng;
 use generate::table;
 use numbers::Numbers;
+use options::{Mode, Options, USAGE};
 use sectors::Sectors;
 use shapes::Shapes;
+use std::io;
 use std::process::ExitCode;
 use strings::Strings;
 use tables::Tables;
@@ -37,73 +48,8 @@ use tally::Kind;
 use texts::Texts;
 use times::Times;
 
-const USAGE: &str = "usage: compare [--short] [--seed N] [--cases N] [--headers N] [--texts N] \
-    [--tables N] [--discs N]
-       compare cuts [--short] [--seed N] [--cuts N]";
-
-struct Options {
-    seed: u64,
-    /// Generated images, with a few questions about each.
-    cases: u64,
-    /// Headers for the audit, at least.
-    headers: u64,
-    /// Random strings, as many texts to decode, and as many fields, draws and times.
-    texts: u64,
-    /// Random lone tables, beside those at the edges.
-    tables: u64,
-    /// Random discs.
-    discs: u64,
-    /// Whether images are cut, and nothing else is compared.
-    cutting: bool,
-    /// Cuts of each disc in each format.
-    cuts: usize,
-}
-
-const FULL: Options = Options {
-    seed: 1,
-    cases: 20_000,
-    headers: 1_000_000,
-    texts: 100_000,
-    tables: 60_000,
-    discs: 100_000,
-    cutting: false,
-    cuts: 1_100,
-};
-
-const SHORT: Options = Options {
-    cases: 2_000,
-    headers: 20_000,
-    texts: 5_000,
-    tables: 1_500,
-    discs: 2_000,
-    cuts: 60,
-    ..FULL
-};
-
-fn options() -> Option<Options> {
-    let mut options = FULL;
-    let mut words = std::env::args().skip(1);
-    while let Some(word) = words.next() {
-        match word.as_str() {
-            "--short" => {
-                let Options { seed, cutting, .. } = options;
-                options = Options { seed, cutting, ..SHORT };
-            }
-            "--seed" => options.seed = words.next()?.parse().ok()?,
-            "--cases" => options.cases = words.next()?.parse().ok()?,
-            "--headers" => options.headers = words.next()?.parse().ok()?,
-            "--texts" => options.texts = words.next()?.parse().ok()?,
-            "--tables" => options.tables = words.next()?.parse().ok()?,
-            "--discs" => options.discs = words.next()?.parse().ok()?,
-            "--cuts" => options.cuts = words.next()?.parse().ok()?,
-            "cuts" => options.cutting = true,
-            _ => return None,
-        }
-    }
-    Some(options)
-}
-
-fn run(options: &Options) -> Vec<Kind> {
+/// Numbers, texts, lone tables and discs.
+fn all(options: &Options) -> Vec<Kind> {
     let mut extent = Extent::new();
     let mut sectors = Sectors::new();
     let mut numbers = Numbers::new();
@@ -127,7 +73,7 @@ fn run(options: &Options) -> Vec<Kind> {
     let texts = [string_bytes, charset, decode, fixed_bytes, fixed_text, language];
     let times = [times.frame_number, times.cap];
     let below = sectors.into_iter().chain(numbers).chain(texts).chain(times);
-    below.chain(areas(options)).chain(disc::kinds(options.seed, options.discs)).collect()
+    below.chain(areas(options)).chain(disc::kinds(options.seed, options.count)).collect()
 }
 
 fn texts(options: &Options) -> (Fields, Strings, Times) {
@@ -166,42 +112,62 @@ fn areas(options: &Options) -> Vec<Kind> {
     for case in 0..options.texts {
         draws.any_case(&mut Rng::of_case(options.seed, case));
     }
-    let Tables { read, shapes, values } = tables;
+    let Tables { read, heads, shapes, values } = tables;
     let Shapes { walk, head, tracks, items, .. } = shapes;
     let Texts { area, track, lies } = texts;
     let values = values.kind("values of fields");
-    vec![read, walk, head, tracks, items, values, area, track, lies, draws.text, draws.any]
+    let records = [read, heads, walk, head, tracks, items, values];
+    records.into_iter().chain([area, track, lies, draws.text, draws.any]).collect()
+}
+
+/// Says what is compared, and compares it.
+fn run(options: &Options) -> io::Result<Vec<Kind>> {
+    let Options { seed, cases, texts, tables, count, cuts, .. } = *options;
+    match options.mode {
+        Mode::All => {
+            println!("seed {seed}, {cases} images, {texts} texts, {tables} tables, {count} discs");
+            Ok(all(options))
+        }
+        Mode::Discs => {
+            println!("seed {seed}, {count} discs");
+            Ok(disc::kinds(seed, count))
+        }
+        Mode::Command => {
+            println!("seed {seed}, {count} discs in files");
+            command::kinds(seed, count)
+        }
+        Mode::Noise => {
+            println!("seed {seed}, {count} byte strings");
+            Ok(noise::kinds(seed, count))
+        }
+        Mode::Cuts => {
+            println!("seed {seed}, {cuts} cuts of each disc");
+            Ok(cuts::kinds(seed, cuts))
+        }
+    }
 }
 
 fn print(kinds: &[Kind]) {
-    println!("{:<17}{:>9}{:>10}{:>9}{:>13}", "kind", "cases", "accepted", "refused", "differences");
+    println!(
+        "{:<19}{:>11}{:>11}{:>10}{:>13}",
+        "kind", "cases", "accepted", "refused", "differences"
+    );
     for kind in kinds {
         let Kind { name, cases, refused, differences, .. } = kind;
         let accepted = cases - refused;
-        println!("{name:<17}{cases:>9}{accepted:>10}{refused:>9}{differences:>13}");
+        println!("{name:<19}{cases:>11}{accepted:>11}{refused:>10}{differences:>13}");
     }
     println!("of them");
-    for kind in kinds {
+    for kind in kinds.iter().filter(|kind| !kind.classes.is_empty()) {
         println!("  {}: {}", kind.name, kind.classes_line());
     }
 }
 
-fn main() -> ExitCode {
-    let Some(options) = options() else {
-        eprintln!("{USAGE}");
-        return ExitCode::from(2);
-    };
-    let Options { seed, cases, texts, tables, discs, cuts, .. } = options;
-    let kinds = if options.cutting {
-        println!("seed {seed}, {cuts} cuts of each disc");
-        cuts::kinds(seed, cuts)
-    } else {
-        println!("seed {seed}, {cases} images, {texts} texts, {tables} tables, {discs} discs");
-        run(&options)
-    };
-    print(&kinds);
+/// Prints the classes that have too few cases and the first differences; the exit status.
+fn verdict(kinds: &[Kind]) -> u8 {
     let mut status = 0;
-    for kind in &kinds {
+    // An exact run is about memory: it may have few cases.
+    for kind in kinds.iter().filter(|_| !guard::is_exact()) {
         for class in kind.scant_classes() {
             println!("{}: fewer than {} cases of the class '{class}'", kind.name, kind.least);
             status = 2;
@@ -211,6 +177,33 @@ fn main() -> ExitCode {
         println!("first difference of {}: {first}", kind.name);
         status = 1;
     }
+    status
+}
+
+fn main() -> ExitCode {
+    if std::env::args().any(|word| word == "--help") {
+        println!("{USAGE}");
+        return ExitCode::SUCCESS;
+    }
+    let Some(options) = options::options(std::env::args().skip(1)) else {
+        eprintln!("{USAGE}");
+        return ExitCode::from(2);
+    };
+    if options.exact {
+        guard::make_exact();
+    }
+    let kinds = match run(&options) {
+        Ok(kinds) => kinds,
+        Err(error) => {
+            eprintln!("host/compare: {error}");
+            return ExitCode::from(2);
+        }
+    };
+    print(&kinds);
+    if matches!(options.mode, Mode::All | Mode::Discs) {
+        println!("\n{}", coverage::table(&kinds));
+    }
+    let status = verdict(&kinds);
     let cases: u64 = kinds.iter().map(|kind| kind.cases).sum();
     let differences: u64 = kinds.iter().map(|kind| kind.differences).sum();
     println!("{cases} cases, {differences} differences");

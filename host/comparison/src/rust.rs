@@ -23,6 +23,16 @@ pub fn sector_format(format: u32) -> Option<SectorFormat> {
     }
 }
 
+/// The number of a format.
+pub fn format_number(format: SectorFormat) -> u32 {
+    match format {
+        SectorFormat::Plain => 0,
+        SectorFormat::Raw2054 => 1,
+        SectorFormat::Raw2064 => 2,
+        _ => u32::MAX,
+    }
+}
+
 /// The image opened with this format; nothing for a foreign one.
 pub fn open<R: Read + Seek>(format: u32, reader: R) -> Option<Image<R>> {
     let options = Image::options().with_format(sector_format(format)?);

@@ -1,10 +1,11 @@
 //! Reading, comparing, fingerprints and the audit, over generated images.
 
+use crate::guard::Guarded;
 use crate::rust::{self, Lent};
 use crate::tally::Kind;
 use generate::Rng;
 use generate::header;
-use generate::image::{Image, pattern};
+use generate::image::Image;
 use generate::question::{Place, Run, any_place, any_run};
 use scarletbook::raw::{AuditAnswer, Comparison, FingerprintAnswer};
 use std::io::Cursor;
@@ -20,7 +21,7 @@ struct Question {
     at: usize,
 }
 
-/// What a read leaves: its refusal and the whole lent buffer.
+/// What a read leaves: its refusal, and the lent buffer with what lies around it.
 #[derive(Debug, PartialEq)]
 struct Written<'a> {
     refusal: u8,
@@ -83,15 +84,14 @@ impl Sectors {
     fn read_case(&mut self, rng: &mut Rng, image: &Image, rust: &mut Option<Lent>, run: Run) {
         let place = any_place(rng, run);
         let Place { len, at } = place;
-        let mut ours = vec![0; len];
-        pattern(rng.below(256), &mut ours);
+        let mut ours = Guarded::bytes(rng.below(256), len);
         let mut theirs = ours.clone();
         let Run { lsn, count } = run;
         let refusal =
             scarletbook::raw::read_sectors(image.format, &image.bytes, lsn, count, &mut ours, at);
-        let library = Written { refusal, buffer: Buffer(&ours) };
+        let library = Written { refusal, buffer: Buffer(ours.all()) };
         let refusal = expected_read(rust, run, &mut theirs, at);
-        let rust = Written { refusal, buffer: Buffer(&theirs) };
+        let rust = Written { refusal, buffer: Buffer(theirs.all()) };
         let kind = &mut self.read;
         kind.case(&question(image, run, len, at), refusal, library, rust);
         count_run(kind, image, run, place, refusal);
@@ -228,6 +228,7 @@ fn lent_bytes(rng: &mut Rng, rust: &mut Option<Lent>, run: Run) -> Vec<u8> {
         3..=8 => change_byte(rng, &mut lent),
         _ => {}
     }
+    lent.shrink_to_fit();
     lent
 }
 

@@ -1,10 +1,10 @@
 //! Stored strings as parts of a table, and their decoding into a page.
 
+use crate::guard::Guarded;
 use crate::rust;
 use crate::sectors::Buffer;
 use crate::tally::Kind;
 use generate::Rng;
-use generate::image::pattern;
 use generate::text::{MOST, any_code, any_page_length, any_string, any_text};
 use generate::text::{single_texts, utf8_length};
 use scarletbook::raw::DecodeAnswer;
@@ -29,7 +29,7 @@ struct Part<'a> {
     bytes: Buffer<'a>,
 }
 
-/// What decoding leaves: its answer and the whole page.
+/// What decoding leaves: its answer, and the page with what lies around it.
 #[derive(Debug, PartialEq)]
 pub struct Decoded<'a> {
     pub answer: DecodeAnswer,
@@ -120,14 +120,13 @@ impl Strings {
         count_string(kind, table, place, string.len());
     }
 
-    fn decode_case(&mut self, bytes: &[u8], code: u8, page: usize, salt: usize) {
-        let mut ours = vec![0; page];
-        pattern(salt, &mut ours);
+    pub fn decode_case(&mut self, bytes: &[u8], code: u8, page: usize, salt: usize) {
+        let mut ours = Guarded::bytes(salt, page);
         let mut theirs = ours.clone();
         let answer = scarletbook::raw::decode(bytes, code, &mut ours);
-        let library = Decoded { answer, page: Buffer(&ours) };
+        let library = Decoded { answer, page: Buffer(ours.all()) };
         let answer = expected_decode(bytes, code, &mut theirs);
-        let rust = Decoded { answer, page: Buffer(&theirs) };
+        let rust = Decoded { answer, page: Buffer(theirs.all()) };
         let kind = &mut self.decode;
         let question = Question { bytes: Buffer(bytes), code, page };
         kind.case(&question, answer.refusal, library, rust);

@@ -1,18 +1,16 @@
 //! Lone tables: the record, the tracks and the warnings, and all that is lent.
 
+use crate::guard::{Differing, Guarded};
+use crate::heads;
 use crate::lone::Lone;
 use crate::sectors::Buffer;
 use crate::shapes::Shapes;
 use crate::tally::Kind;
 use crate::values::Values;
 use generate::Rng;
-use generate::image::pattern;
 use generate::layout::DATA;
 use generate::table::MOST_SECTORS;
-use scarletbook::raw::{
-    FixedText, Frame, Genre, Lsn, MAX_TRACKS, TABLE_WORDS, TableAnswer, TextPlace, Track,
-    TrackTimes,
-};
+use scarletbook::raw::{MAX_TRACKS, TABLE_WORDS, TableAnswer, Track};
 
 const MOST: usize = MOST_SECTORS * DATA;
 
@@ -27,20 +25,22 @@ struct Question<'a> {
 /// The records and words that are lent.
 #[derive(Clone)]
 struct Lent {
-    tracks: Vec<Track>,
-    words: Vec<u32>,
+    tracks: Guarded<Track>,
+    words: Guarded<u32>,
 }
 
-/// What a read leaves: its answer, and of the lent records and words the first that differs.
+/// What a read leaves: its answer, and of the lent records and words, and those around them, the
+/// first that differs.
 #[derive(Debug, PartialEq)]
 struct Left {
     answer: TableAnswer,
-    track: Option<(usize, Track)>,
-    word: Option<(usize, u32)>,
+    track: Differing<Track>,
+    word: Differing<u32>,
 }
 
 pub struct Tables {
     pub read: Kind,
+    pub heads: Kind,
     pub shapes: Shapes,
     pub values: Values,
 }
@@ -57,6 +57,7 @@ impl Tables {
                 "read_table",
                 &[&odd[..], &short[..], &order[..], &room[..], &edges[..]].concat(),
             ),
+            heads: heads::kind(),
             shapes: Shapes::new(),
             values: Values::new(),
         }
@@ -67,6 +68,7 @@ impl Tables {
     pub fn case(&mut self, rng: &mut Rng, table: &[u8]) -> Option<Lone> {
         let lone = Lone::read(table);
         self.read_case(any_lent(rng), table, Some(&lone));
+        heads::case(&mut self.heads, rng, table, &lone);
         self.shapes.count(table, &lone);
         lone.rust.as_ref()?;
         self.values.note(&lone);
@@ -77,8 +79,15 @@ impl Tables {
     pub fn odd_case(&mut self, rng: &mut Rng, table: &[u8]) {
         let mut changed = table.to_vec();
         changed.resize(any_length(rng, table.len()), 0);
-        let lone = is_table(changed.len()).then(|| Lone::read(&changed));
-        self.read_case(any_lent(rng), &changed, lone.as_ref());
+        changed.shrink_to_fit();
+        self.any_case(rng, &changed);
+    }
+
+    /// Any bytes; what the Rust gives if they yield an area.
+    pub fn any_case(&mut self, rng: &mut Rng, bytes: &[u8]) -> Option<Lone> {
+        let lone = is_table(bytes.len()).then(|| Lone::read(bytes));
+        self.read_case(any_lent(rng), bytes, lone.as_ref());
+        lone.filter(|lone| lone.rust.is_some())
     }
 
     fn read_case(&mut self, lent: Lent, table: &[u8], lone: Option<&Lone>) {
@@ -104,13 +113,12 @@ impl Tables {
 
 /// What the library and the Rust leave.
 fn left(ours: (TableAnswer, &Lent), theirs: (TableAnswer, &Lent)) -> [Left; 2] {
-    let track = first_difference(&ours.1.tracks, &theirs.1.tracks);
-    let word = first_difference(&ours.1.words, &theirs.1.words);
-    [ours, theirs].map(|(answer, lent)| Left {
-        answer,
-        track: track.map(|at| (at, lent.tracks[at])),
-        word: word.map(|at| (at, lent.words[at])),
-    })
+    let [our_track, their_track] = ours.1.tracks.differing(&theirs.1.tracks);
+    let [our_word, their_word] = ours.1.words.differing(&theirs.1.words);
+    [
+        Left { answer: ours.0, track: our_track, word: our_word },
+        Left { answer: theirs.0, track: their_track, word: their_word },
+    ]
 }
 
 /// Refusals 7 and 2 by the document, the rest by the Rust.
@@ -167,7 +175,7 @@ fn any_length(rng: &mut Rng, bytes: usize) -> usize {
 fn any_lent(rng: &mut Rng) -> Lent {
     let [tracks, words] = [MAX_TRACKS, TABLE_WORDS].map(|need| any_room(rng, need));
     let salt = rng.below(256);
-    Lent { tracks: patterned_tracks(salt, tracks), words: patterned_words(salt, words) }
+    Lent { tracks: Guarded::tracks(salt, tracks), words: Guarded::words(salt, words) }
 }
 
 /// Mostly as many as are needed, or more; else one less, none or any.
@@ -179,43 +187,4 @@ fn any_room(rng: &mut Rng, need: usize) -> usize {
         2..=20 => need + 1 + rng.below(4),
         _ => need,
     }
-}
-
-pub fn patterned_words(salt: usize, count: usize) -> Vec<u32> {
-    let mut bytes = vec![0; 4 * count];
-    pattern(salt, &mut bytes);
-    let (words, _) = bytes.as_chunks();
-    words.iter().map(|&word| u32::from_le_bytes(word)).collect()
-}
-
-/// Records whose every field follows from its place alone.
-pub fn patterned_tracks(salt: usize, count: usize) -> Vec<Track> {
-    const WORDS: usize = 25;
-    let words = patterned_words(salt, WORDS * count);
-    words.chunks_exact(WORDS).map(patterned_track).collect()
-}
-
-fn patterned_track(words: &[u32]) -> Track {
-    let bytes: Vec<_> = words.iter().flat_map(|word| word.to_le_bytes()).collect();
-    let text = &words[words.len() - scarletbook::raw::TRACK_TEXTS..];
-    Track {
-        number: bytes[0],
-        start_lsn: Lsn(words[1]),
-        length_sectors: words[2],
-        times: TrackTimes { start_frame: Frame(words[3]), duration_frames: Frame(words[4]) },
-        start_flags: bytes[1],
-        duration_flags: bytes[2],
-        has_isrc: bytes[3],
-        isrc: FixedText { bytes: std::array::from_fn(|at| bytes[20 + at]), len: bytes[36] },
-        has_genre: bytes[37],
-        genre: Genre { category: bytes[38], index: bytes[39] },
-        text: std::array::from_fn(|item| TextPlace { place: text[item] }),
-    }
-}
-
-pub fn first_difference<T: PartialEq>(ours: &[T], theirs: &[T]) -> Option<usize> {
-    if ours == theirs {
-        return None;
-    }
-    ours.iter().zip(theirs).position(|(ours, theirs)| ours != theirs)
 }

@@ -56,6 +56,22 @@ impl Kind {
         self.class(class, usize::from(belongs));
     }
 
+    /// Adds the cases of the same kind that come behind these.
+    pub fn add(&mut self, other: Kind) {
+        self.cases += other.cases;
+        self.refused += other.refused;
+        self.differences += other.differences;
+        for ((_, count), (_, more)) in self.classes.iter_mut().zip(other.classes) {
+            *count += more;
+        }
+        self.first = self.first.take().or(other.first);
+    }
+
+    /// The cases of a class; 0 for one that the kind does not have.
+    pub fn count(&self, class: &str) -> u64 {
+        self.classes.iter().find(|(name, _)| *name == class).map_or(0, |(_, count)| *count)
+    }
+
     /// The classes that too few cases were of.
     pub fn scant_classes(&self) -> impl Iterator<Item = &'static str> {
         self.classes.iter().filter(|(_, count)| *count < self.least).map(|(name, _)| *name)

@@ -1,14 +1,14 @@
 //! The texts of lone tables: every item of every area and track, and records that lie.
 
+use crate::guard::{Guarded, patterned_tracks};
 use crate::lone::Lone;
 use crate::plain;
 use crate::rust;
 use crate::sectors::Buffer;
 use crate::strings::{Decoded, expected_text};
-use crate::tables::{patterned_tracks, write};
+use crate::tables::write;
 use crate::tally::Kind;
 use generate::Rng;
-use generate::image::pattern;
 use generate::layout::DATA;
 use generate::table::{MOST_SECTORS, put};
 use generate::text::any_page_length;
@@ -107,7 +107,14 @@ impl Texts {
         for _ in 0..1 + rng.below(2) {
             lie(rng, &mut area, &mut tracks, &mut lent);
         }
-        let lent = Lent { table: &lent, area, tracks: &tracks };
+        lent.shrink_to_fit();
+        tracks.shrink_to_fit();
+        self.record_case(rng, &lent, area, &tracks);
+    }
+
+    /// Any text by any records.
+    pub fn record_case(&mut self, rng: &mut Rng, table: &[u8], area: Area, tracks: &[Track]) {
+        let lent = Lent { table, area, tracks };
         let which = any_which(rng, &area);
         let (refusal, string) = found(&lent, which);
         let text = rust::decode(string, area.text_charset);
@@ -146,13 +153,12 @@ fn decode_case(
     page: usize,
     expected: impl Fn(&mut [u8]) -> DecodeAnswer,
 ) -> DecodeAnswer {
-    let mut ours = vec![0; page];
-    pattern(rng.below(256), &mut ours);
+    let mut ours = Guarded::bytes(rng.below(256), page);
     let mut theirs = ours.clone();
     let answer = lent.decode(which, &mut ours);
-    let library = Decoded { answer, page: Buffer(&ours) };
+    let library = Decoded { answer, page: Buffer(ours.all()) };
     let answer = expected(&mut theirs);
-    let rust = Decoded { answer, page: Buffer(&theirs) };
+    let rust = Decoded { answer, page: Buffer(theirs.all()) };
     let (bytes, tracks) = (lent.table.len(), lent.tracks.len());
     let question = Question { bytes, area: lent.area, tracks, which, page };
     kind.case(&question, answer.refusal, library, rust);

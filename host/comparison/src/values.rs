@@ -55,13 +55,25 @@ impl Values {
         self.noted += 1;
     }
 
+    /// Adds the values of other records.
+    pub fn merge(&mut self, other: Values) {
+        self.noted += other.noted;
+        for (at, field) in other.fields.into_iter().enumerate() {
+            match self.fields.get_mut(at) {
+                Some((_, _, values)) => values.extend(field.2),
+                None => self.fields.push(field),
+            }
+        }
+    }
+
     /// A kind with a class for each field, empty if it took too few values.
     pub fn kind(&self, name: &'static str) -> Kind {
         let names: Vec<_> = self.fields.iter().map(|field| field.0).collect();
         let mut kind = Kind::new(name, &names);
         kind.cases = self.noted;
         for (name, least, values) in &self.fields {
-            kind.class(name, if values.len() < *least { 0 } else { values.len() });
+            let count = values.len().min(MOST);
+            kind.class(name, if count < *least { 0 } else { count });
         }
         kind
     }

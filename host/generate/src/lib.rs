@@ -5,6 +5,7 @@ pub mod disc;
 pub mod header;
 pub mod image;
 pub mod layout;
+pub mod noise;
 pub mod question;
 mod rng;
 pub mod table;

@@ -2,6 +2,7 @@ use crate::Rng;
 use crate::header::{Header, correct, damaged, is_sound, single_changes, times};
 use crate::image::{CONTENTS, Image, any_image};
 use crate::layout::{DATA, layout};
+use crate::noise::{Pool, any_noise};
 use crate::question::{any_byte_count, any_place, any_run, any_table};
 use crate::text::{self, any_field, any_page_length, any_string, any_text, utf8_length};
 
@@ -202,4 +203,17 @@ fn fields_have_none_to_40_bytes() {
     let fields: Vec<_> = (0..2000).map(|case| any_field(&mut Rng::of_case(3, case))).collect();
     assert!((0..=40).all(|length| fields.iter().any(|field| field.len() == length)));
     assert!(fields.iter().any(|field| field.len() == 16 && !field.contains(&0)));
+}
+
+#[test]
+fn noise_is_of_many_lengths() {
+    let pool = Pool::new(3);
+    let strings = || (0..3000).map(|case| any_noise(&mut Rng::of_case(3, case), &pool));
+    assert!(strings().take(50).eq(strings().take(50)));
+    let lengths: Vec<_> = strings().map(|string| string.len()).collect();
+    for length in [0, 1, 2047, 2048, 2049, 2053, 2054, 2055, 2063, 2064, 2065, 128 * 2048] {
+        assert!(lengths.contains(&length), "{length}");
+    }
+    let discs = lengths.iter().filter(|&&length| length >= 520 * 2048).count();
+    assert!((300..1500).contains(&discs), "{discs}");
 }

@@ -31,6 +31,7 @@ pub fn any_string(rng: &mut Rng) -> (Vec<u8>, usize) {
         table.push(0);
         table.extend([rng.byte(), rng.byte(), rng.byte()]);
         table.truncate(table.len() - rng.below(4));
+        table.shrink_to_fit();
     }
     let place = match rng.below(16) {
         0 => table.len() + rng.below(3),

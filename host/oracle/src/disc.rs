@@ -1,8 +1,8 @@
 //! A disc, asked of the customer's `read_toc`.
 
-use crate::error::{Error, Warning};
+use crate::error::{Error, Slot, Warning};
 use crate::image::{Image, SectorFormat};
-use crate::toc::{MasterToc, Toc, private, read_toc};
+use crate::toc::{MasterToc, Timecode, Toc, TocStored, private, read_toc};
 use std::io::Cursor;
 
 /// What an image gives.
@@ -14,13 +14,30 @@ pub enum Disc {
     Refused(Error),
 }
 
+/// The stored times of an accepted disc's tracks, which a `Toc` does not have.
+#[derive(Debug, Default)]
+pub struct Stored(TocStored);
+
+impl Stored {
+    /// The start and the duration of a track, by its number from 1.
+    pub fn timecodes(&self, slot: Slot, number: u8) -> Option<(Timecode, Timecode)> {
+        self.0.track_timecodes(slot, number.into())
+    }
+}
+
 /// Reads an image that is opened with this format.
 pub fn read_disc(format: SectorFormat, image: &[u8]) -> Disc {
-    match open(format, image).and_then(|mut image| read_toc(&mut image)) {
-        Ok((toc, warnings, ..)) => Disc::Accepted(toc, warnings),
+    read_stored(format, image).0
+}
+
+/// The same, with the stored times.
+pub fn read_stored(format: SectorFormat, image: &[u8]) -> (Disc, Stored) {
+    let disc = match open(format, image).and_then(|mut image| read_toc(&mut image)) {
+        Ok((toc, warnings, _, stored)) => return (Disc::Accepted(toc, warnings), Stored(stored)),
         Err(Error::NoAudioAreas) => read_silent(format, image),
         Err(error) => Disc::Refused(error),
-    }
+    };
+    (disc, Stored::default())
 }
 
 /// `read_toc` answers a silent disc with an error alone: what it met stands in the functions that
@@ -34,9 +51,9 @@ fn read_silent(format: SectorFormat, image: &[u8]) -> Disc {
     }
 }
 
-/// Whether `Image::open` finds this format: the document's domain.
-pub fn is_detected(format: SectorFormat, image: &[u8]) -> bool {
-    Image::open(Cursor::new(image)).is_ok_and(|image| image.format() == format)
+/// The format that `Image::open` finds. An image is in the document's domain if it is read in it.
+pub fn detected(image: &[u8]) -> Option<SectorFormat> {
+    Image::open(Cursor::new(image)).ok().map(|image| image.format())
 }
 
 fn open(format: SectorFormat, image: &[u8]) -> Result<Image<Cursor<&[u8]>>, Error> {

@@ -92,7 +92,7 @@ impl Cuts {
             let (rewriting, class) = rng.pick(&REWRITINGS);
             let disc = cut(rng, uncut, &rules.kept, at, rewriting, &planted);
             let question = Question { disc: name, format: uncut.format, cut: at, rewriting };
-            let answer = memory.read(&disc, Room::EXACT);
+            let answer = memory.read(disc.format, &disc.bytes, Room::EXACT);
             if disc.sectors() < BEHIND {
                 self.below(&question, memory.left(answer, refused(3)));
             } else {

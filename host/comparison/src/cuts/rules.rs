@@ -1,6 +1,6 @@
 //! What the rules give for an uncut image: its master record, and each copy that it names.
 
-use crate::disc::answer::{Answer, data, is_read, readable};
+use crate::disc::answer::{Answer, data, is_read, read, readable};
 use crate::lone::Lone;
 use generate::disc::{Disc, MASTER, MASTER_SECTORS};
 use scarletbook::raw::{Area, AreaPointer, Lsn, MasterToc, TableOrigin, Track};
@@ -60,7 +60,8 @@ pub struct Rules {
 impl Rules {
     /// The rules of an uncut image that is accepted, or silent; by the Rust.
     pub fn of(disc: &Disc) -> Self {
-        let Answer { refusal, master, .. } = Answer::read(disc);
+        let (rust, _) = read(disc).expect("0, 1 and 2 are formats");
+        let Answer { refusal, master, .. } = Answer::of(disc, rust);
         assert!(matches!(refusal, 0 | 6), "the uncut image is refused with {refusal}");
         let slots = [(1, master.two_channel), (2, master.multichannel)].map(|(slot, pointer)| {
             let used = pointer.toc1_lsn != Lsn(0) && pointer.toc_sectors > 0;

@@ -2,13 +2,12 @@
 
 use crate::lone::{area_record, locale_record, track_records, word};
 use crate::plain;
-use crate::rust::{FAILED, one_a_character, padded, sector_format};
+use crate::rust::{FAILED, format_number, one_a_character, padded, sector_format};
 use generate::disc::{Disc, MASTER, MASTER_SECTORS};
 use generate::layout::DATA;
 use generate::table::MOST_SECTORS;
-use oracle::disc::{self, Disc as Rust};
+use oracle::disc::{Disc as Rust, Stored, read_stored};
 use oracle::error::{Slot, Warning};
-use oracle::image::SectorFormat;
 use oracle::toc::{self, DiscText, Toc};
 use scarletbook::raw::{
     Area, AreaPointer, Date, DiscAnswer, FixedText, GENRES, Genre, Locale, Lsn, MASTER_LOCALES,
@@ -30,11 +29,14 @@ pub struct Answer {
     pub tracks: [Vec<Track>; 2],
 }
 
+/// What the Rust gives of a disc; nothing for a foreign format.
+pub fn read(disc: &Disc) -> Option<(Rust, Stored)> {
+    sector_format(disc.format).map(|format| read_stored(format, &disc.bytes))
+}
+
 impl Answer {
-    /// The answer for a disc whose format is not foreign.
-    pub fn read(disc: &Disc) -> Self {
-        let format = sector_format(disc.format).expect("0, 1 and 2 are formats");
-        let rust = disc::read_disc(format, &disc.bytes);
+    /// By what the Rust gives of a disc.
+    pub fn of(disc: &Disc, rust: Rust) -> Self {
         let refusal = rust.refusal().unwrap_or(FAILED);
         let cut = disc.sectors() < MASTER + MASTER_SECTORS;
         match rust {
@@ -91,15 +93,6 @@ impl Answer {
             two_channel,
             multichannel,
         }
-    }
-}
-
-fn format_number(format: SectorFormat) -> u32 {
-    match format {
-        SectorFormat::Plain => 0,
-        SectorFormat::Raw2054 => 1,
-        SectorFormat::Raw2064 => 2,
-        _ => u32::MAX,
     }
 }
 

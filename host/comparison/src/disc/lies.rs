@@ -52,14 +52,15 @@ impl Lies {
                 lie(rng, &mut area, lent);
             }
             lie_of_disc(rng, &mut master, lent);
-            let which = any_which(rng, master, area);
-            self.case(rng, which, lent);
+            self.record_case(rng, master, area, lent);
         }
     }
 
-    fn case(&mut self, rng: &mut Rng, which: Which, lent: &Lent) {
-        let work = &lent.work[..any_room(rng, WORK_BYTES)];
-        let tracks = &lent.tracks[..any_room(rng, DISC_TRACKS)];
+    /// Any text by any records.
+    pub fn record_case(&mut self, rng: &mut Rng, master: MasterToc, area: Area, lent: &Lent) {
+        let which = any_which(rng, master, area);
+        let work = &lent.work[..any_room(rng, WORK_BYTES).min(lent.work.len())];
+        let tracks = &lent.tracks[..any_room(rng, DISC_TRACKS).min(lent.tracks.len())];
         let (refusal, string) = found(work, tracks, &which);
         let text = rust::decode(string, which.charset());
         let page = any_page_length(rng, text.as_ref().map_or(2, String::len));

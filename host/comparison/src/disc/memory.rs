@@ -1,22 +1,24 @@
 //! What is lent to the reading of a disc, and what it leaves.
 
 use super::answer::Answer;
-use crate::tables::{first_difference, patterned_tracks, patterned_words, write};
+use crate::guard::{self, Differing, Guarded};
+use crate::tables::write;
 use generate::Rng;
 use generate::disc::Disc;
-use generate::image::pattern;
 use scarletbook::raw::{
     DISC_TRACKS, DISC_WORDS, DiscAnswer, FIRST_TRACKS, REGIONS, Track, WORK_BYTES, read_disc,
 };
 
 /// The most that is lent beyond what must be.
-const MORE: usize = 4;
+fn more() -> usize {
+    if guard::is_exact() { 0 } else { 4 }
+}
 
 #[derive(Clone)]
 pub struct Lent {
-    pub work: Vec<u8>,
-    pub tracks: Vec<Track>,
-    pub words: Vec<u32>,
+    pub work: Guarded<u8>,
+    pub tracks: Guarded<Track>,
+    pub words: Guarded<u32>,
 }
 
 /// How much of the memory is lent.
@@ -53,7 +55,7 @@ impl Room {
             0 => Room::short(rng),
             1..=6 => {
                 let [work, tracks, words] =
-                    [work, tracks, words].map(|need| need + rng.below(MORE + 1));
+                    [work, tracks, words].map(|need| need + rng.below(more() + 1));
                 Room { work, tracks, words }
             }
             7..=14 if refused => Room::short(rng),
@@ -73,25 +75,26 @@ pub struct Memory {
 #[derive(Debug, PartialEq)]
 pub struct Left {
     answer: DiscAnswer,
-    work: Option<(usize, u8)>,
-    track: Option<(usize, Track)>,
-    word: Option<(usize, u32)>,
+    work: Differing<u8>,
+    track: Differing<Track>,
+    word: Differing<u32>,
 }
 
 impl Memory {
     pub fn new(salt: usize) -> Self {
-        let mut work = vec![0; WORK_BYTES + MORE];
-        pattern(salt, &mut work);
-        let tracks = patterned_tracks(salt, DISC_TRACKS + MORE);
-        let before = Lent { work, tracks, words: patterned_words(salt, DISC_WORDS + MORE) };
+        let before = Lent {
+            work: Guarded::bytes(salt, WORK_BYTES + more()),
+            tracks: Guarded::tracks(salt, DISC_TRACKS + more()),
+            words: Guarded::words(salt, DISC_WORDS + more()),
+        };
         Memory { ours: before.clone(), theirs: before.clone(), before }
     }
 
     /// The library reads.
-    pub fn read(&mut self, disc: &Disc, room: Room) -> DiscAnswer {
+    pub fn read(&mut self, format: u32, image: &[u8], room: Room) -> DiscAnswer {
         let Lent { work, tracks, words } = &mut self.ours;
         let (work, tracks) = (&mut work[..room.work], &mut tracks[..room.tracks]);
-        read_disc(disc.format, &disc.bytes, work, tracks, &mut words[..room.words])
+        read_disc(format, image, work, tracks, &mut words[..room.words])
     }
 
     /// Writes what the Rust gives to where the document says.
@@ -112,23 +115,30 @@ impl Memory {
 
     /// What the library and the Rust leave of all memory, that which is not lent too.
     pub fn left(&self, ours: DiscAnswer, theirs: DiscAnswer) -> [Left; 2] {
-        let work = first_difference(&self.ours.work, &self.theirs.work);
-        let track = first_difference(&self.ours.tracks, &self.theirs.tracks);
-        let word = first_difference(&self.ours.words, &self.theirs.words);
-        [(ours, &self.ours), (theirs, &self.theirs)].map(|(answer, lent)| Left {
+        let works = self.ours.work.differing(&self.theirs.work);
+        let tracks = self.ours.tracks.differing(&self.theirs.tracks);
+        let words = self.ours.words.differing(&self.theirs.words);
+        let [our, their] = [0, 1].map(|of| (works[of], tracks[of], words[of]));
+        [(ours, our), (theirs, their)].map(|(answer, (work, track, word))| Left {
             answer,
-            work: work.map(|at| (at, lent.work[at])),
-            track: track.map(|at| (at, lent.tracks[at])),
-            word: word.map(|at| (at, lent.words[at])),
+            work,
+            track,
+            word,
         })
+    }
+
+    /// Puts a track record into both.
+    pub fn set_track(&mut self, at: usize, track: Track) {
+        self.ours.tracks[at] = track;
+        self.theirs.tracks[at] = track;
     }
 
     /// Puts the pattern back.
     pub fn restore(&mut self) {
         for lent in [&mut self.ours, &mut self.theirs] {
-            lent.work.copy_from_slice(&self.before.work);
-            lent.tracks.copy_from_slice(&self.before.tracks);
-            lent.words.copy_from_slice(&self.before.words);
+            lent.work.restore(&self.before.work);
+            lent.tracks.restore(&self.before.tracks);
+            lent.words.restore(&self.before.words);
         }
     }
 }

@@ -6,13 +6,21 @@ use crate::rust::sector_format;
 use crate::tally::Kind;
 use generate::Rng;
 use generate::disc::{Disc, MASTER, MASTER_SECTORS};
-use oracle::disc::is_detected;
+use oracle::disc::detected;
+
+/// The names of the two kinds.
+pub const READS: &str = "read_disc";
+pub const CODES: &str = "discs, codes";
 
 /// The first sector behind the master table.
 const BEHIND: usize = MASTER + MASTER_SECTORS;
 
 const REFUSALS: [&str; 6] =
     ["refusal 1", "refusal 2", "refusal 3", "refusal 4", "refusal 5", "refusal 6"];
+
+/// Images of each format, accepted or not.
+const IMAGES: [(u32, &str); 3] =
+    [(0, "image of format 0"), (1, "image of format 1"), (2, "image of format 2")];
 
 /// Each warning that comes from a disc; 16 is none of them.
 const WARNINGS: [(u32, &str); 17] = [
@@ -52,30 +60,56 @@ pub struct Reads {
 
 impl Reads {
     pub fn new() -> Self {
-        let formats = ["format 0", "format 1", "format 2", "in the domain", "not in the domain"];
+        let formats = ["format 0", "format 1", "format 2"];
+        let images = IMAGES.map(|image| image.1);
+        let domain = ["foreign image", "in the domain", "not in the domain"];
         let short = ["544,767 bytes", "509 records", "1,536 words", "no bytes", "no words"];
         let more = ["longer work", "longer records", "longer words", "no records"];
         let order = ["1 before 2", "2 before 3", "2 before 6", "3 before 4"];
-        let cuts = ["inside a sector", "whole sectors", "519 sectors", "520 sectors", "no image"];
+        let cuts = ["inside a sector", "whole sectors", "cut inside a sector"];
+        let counts = ["519 sectors", "520 sectors", "no image"];
         let half = ["accepted", "half accepted"];
-        let read = [&REFUSALS[..], &formats, &short, &more, &order, &cuts, &half];
+        let read = [
+            &REFUSALS[..],
+            &formats,
+            &images,
+            &domain,
+            &short,
+            &more,
+            &order,
+            &cuts,
+            &counts,
+            &half,
+        ];
         let warnings = WARNINGS.map(|warning| warning.1);
         Reads {
-            read: Kind::new("read_disc", &read.concat()),
-            codes: Kind::new("discs, codes", &[&REFUSALS[..], &warnings].concat()),
+            read: Kind::new(READS, &read.concat()),
+            codes: Kind::new(CODES, &[&REFUSALS[..], &warnings].concat()),
         }
     }
 
-    /// A disc, with memory that is mostly enough; what the Rust gives if that is not refused, or
-    /// with 6. The memory is left as the library leaves it.
+    /// A disc and what the Rust gives of it, with memory that is mostly enough; the same again if
+    /// that is not refused, or with 6. The memory is left as the library leaves it.
     pub fn case(
         &mut self,
         rng: &mut Rng,
         case: u64,
         disc: &Disc,
+        rust: Option<Answer>,
         memory: &mut Memory,
     ) -> Option<Answer> {
-        let rust = sector_format(disc.format).map(|_| Answer::read(disc));
+        self.case_in(rng, case, (disc, &disc.bytes), rust, memory)
+    }
+
+    /// The same, with the bytes of the disc lent from elsewhere.
+    pub fn case_in(
+        &mut self,
+        rng: &mut Rng,
+        case: u64,
+        (disc, image): (&Disc, &[u8]),
+        rust: Option<Answer>,
+        memory: &mut Memory,
+    ) -> Option<Answer> {
         let room = Room::any(rng, rust.as_ref().is_none_or(|answer| answer.refusal != 0));
         let refused = match &rust {
             None => Some(Answer::refused(1)),
@@ -84,7 +118,7 @@ impl Reads {
         };
         self.count_order(disc, room, rust.as_ref());
         let answer = refused.or(rust)?;
-        let library = memory.read(disc, room);
+        let library = memory.read(disc.format, image, room);
         memory.write(disc, &answer);
         let [library, rust] = memory.left(library, answer.record());
         let question = Question { case, format: disc.format, bytes: disc.bytes.len(), room };
@@ -103,7 +137,7 @@ impl Reads {
         let signed = disc.sectors() > MASTER && disc.data(MASTER).starts_with(b"SACDMTOC");
         kind.class_if("3 before 4", refusal == 3 && !signed);
         let format = sector_format(disc.format);
-        let found = format.is_some_and(|format| is_detected(format, &disc.bytes));
+        let found = format.is_some() && detected(&disc.bytes) == format;
         kind.class_if("in the domain", found);
         kind.class_if("not in the domain", !found);
     }
@@ -124,12 +158,17 @@ impl Reads {
         let inside = !disc.bytes.len().is_multiple_of(disc.form.stored);
         kind.class_if("inside a sector", refusal == 0 && inside);
         kind.class_if("whole sectors", refusal == 0 && !inside);
+        kind.class_if("cut inside a sector", inside);
         kind.class_if("519 sectors", refusal == 3 && disc.sectors() == BEHIND - 1);
         kind.class_if("520 sectors", matches!(refusal, 0 | 6) && disc.sectors() == BEHIND);
         kind.class_if("no image", refusal == 3 && disc.sectors() == 0);
         for (format, class) in [(0, "format 0"), (1, "format 1"), (2, "format 2")] {
             kind.class_if(class, refusal == 0 && disc.format == format);
         }
+        for (format, class) in IMAGES {
+            kind.class_if(class, disc.format == format);
+        }
+        kind.class_if("foreign image", disc.format > 2);
         self.codes.cases += 1;
         self.codes.refused += u64::from(refusal != 0);
         if let Some(class) = REFUSALS.get(usize::from(refusal).wrapping_sub(1)) {
@@ -139,11 +178,11 @@ impl Reads {
             self.codes.class_if(class, answer.words.iter().any(|word| word >> 16 == code));
         }
     }
+}
 
-    /// Counts whether at least half of the discs are accepted, and asks for so many of each code.
-    pub fn finish(mut self, least: u64) -> Self {
-        self.read.class_if("half accepted", 2 * self.read.refused <= self.read.cases);
-        self.codes.least = least;
-        self
+/// Counts, when all discs are read, whether at least half of them are accepted.
+pub fn finish(kinds: &mut [Kind]) {
+    for kind in kinds.iter_mut().filter(|kind| kind.name == READS) {
+        kind.class_if("half accepted", 2 * kind.refused <= kind.cases);
     }
 }

@@ -2,11 +2,11 @@
 
 use super::answer::Answer;
 use super::memory::Lent;
+use crate::guard::Guarded;
 use crate::sectors::Buffer;
 use crate::strings::{Decoded, expected_text};
 use crate::tally::Kind;
 use generate::Rng;
-use generate::image::pattern;
 use generate::text::any_page_length;
 use oracle::error::Slot;
 use oracle::toc::{AreaTextItem, DiscTextItem, TrackTextItem};
@@ -134,13 +134,12 @@ pub fn decode_case(
     expected: impl Fn(&mut [u8]) -> DecodeAnswer,
 ) -> DecodeAnswer {
     let (work, tracks) = lent;
-    let mut ours = vec![0; page];
-    pattern(rng.below(256), &mut ours);
+    let mut ours = Guarded::bytes(rng.below(256), page);
     let mut theirs = ours.clone();
     let answer = which.decode(work, tracks, &mut ours);
-    let library = Decoded { answer, page: Buffer(&ours) };
+    let library = Decoded { answer, page: Buffer(ours.all()) };
     let answer = expected(&mut theirs);
-    let rust = Decoded { answer, page: Buffer(&theirs) };
+    let rust = Decoded { answer, page: Buffer(theirs.all()) };
     let question = Question { work: work.len(), tracks: tracks.len(), which, page };
     kind.case(&question, answer.refusal, library, rust);
     answer

@@ -40,6 +40,13 @@ impl Values {
         }
     }
 
+    pub fn merge(&mut self, other: Values) {
+        self.master.merge(other.master);
+        for (values, more) in self.areas.iter_mut().zip(other.areas) {
+            values.merge(more);
+        }
+    }
+
     pub fn kinds(&self) -> [Kind; 3] {
         let [first, second] = &self.areas;
         [

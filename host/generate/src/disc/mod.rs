@@ -160,6 +160,7 @@ fn cut(rng: &mut Rng, disc: &mut Disc) {
     let any = 1 + rng.below(stored - 1);
     let inside = rng.pick(&[0, 0, 1, data_at, data_at + DATA, stored - 1, any]);
     disc.bytes.truncate(sector * stored + inside);
+    disc.bytes.shrink_to_fit();
 }
 
 #[cfg(test)]

@@ -1,0 +1,129 @@
+//! The command `tables --dump` over discs in files, beside the Rust's dump.
+
+use crate::disc::answer::read;
+use crate::disc::dump::{dump, refusal};
+use crate::disc::dumps::differing;
+use crate::progress::Progress;
+use crate::rust::format_number;
+use crate::tally::Kind;
+use crate::threads::{in_threads, sums};
+use generate::Rng;
+use generate::disc::{Disc, any_disc};
+use oracle::disc::detected;
+use std::fs;
+use std::io;
+use std::ops::Range;
+use std::path::{Path, PathBuf};
+use std::process::Command;
+
+/// From so many discs on each class must have a case.
+const SHORT: u64 = 500;
+
+struct Run {
+    with_format: Kind,
+    without_format: Kind,
+    /// The command, and the file of the images.
+    tables: PathBuf,
+    file: PathBuf,
+}
+
+/// Compares the command for as many discs, each with its format and without one.
+pub fn kinds(seed: u64, discs: u64) -> io::Result<Vec<Kind>> {
+    let tables = std::env::current_exe()?.with_file_name("tables");
+    if !tables.is_file() {
+        return Err(io::Error::other("there is no tables beside this program: build it first"));
+    }
+    let folder = std::env::temp_dir().join(format!("comparison-{}", std::process::id()));
+    fs::create_dir_all(&folder)?;
+    let progress = Progress::new("images", discs);
+    let runs = in_threads(discs, |cases| {
+        let mut run = Run::new(&tables, folder.join(format!("{}.iso", cases.start)));
+        run.cases(seed, cases, &progress)?;
+        Ok(vec![run.with_format, run.without_format])
+    });
+    fs::remove_dir_all(&folder)?;
+    let mut kinds = sums(runs.into_iter().collect::<io::Result<Vec<_>>>()?);
+    for kind in &mut kinds {
+        kind.least = u64::from(discs >= SHORT);
+    }
+    Ok(kinds)
+}
+
+impl Run {
+    fn new(tables: &Path, file: PathBuf) -> Self {
+        let refusals = ["accepted", "refusal 3", "refusal 4", "refusal 5", "refusal 6"];
+        let formats = ["format 0", "format 1", "format 2"];
+        let given = [&refusals[..], &formats, &["refusal 1"]].concat();
+        let found = [&refusals[..], &formats, &["another than given", "no format found"]].concat();
+        Run {
+            with_format: Kind::new("tables --format", &given),
+            without_format: Kind::new("tables", &found),
+            tables: tables.to_path_buf(),
+            file,
+        }
+    }
+
+    fn cases(&mut self, seed: u64, cases: Range<u64>, progress: &Progress) -> io::Result<()> {
+        for case in cases {
+            let disc = any_disc(&mut Rng::of_case(seed, case));
+            fs::write(&self.file, &disc.bytes)?;
+            self.given(case, &disc)?;
+            self.found(case, disc)?;
+            progress.step();
+        }
+        Ok(())
+    }
+
+    /// With the disc's format, foreign ones too.
+    fn given(&mut self, case: u64, disc: &Disc) -> io::Result<()> {
+        let rust = read(disc);
+        let format = disc.format.to_string();
+        let answer = self.answer(&["--format", &format])?;
+        let refusal = refusal(rust.as_ref());
+        compare(&mut self.with_format, (case, disc), refusal, &answer, &dump(rust.as_ref()));
+        Ok(())
+    }
+
+    /// Without a format: that which the Rust's `Image::open` finds, or refusal 4.
+    fn found(&mut self, case: u64, mut disc: Disc) -> io::Result<()> {
+        let answer = self.answer(&[])?;
+        let given = disc.format;
+        let format = detected(&disc.bytes).map(format_number);
+        disc.format = format.unwrap_or(u32::MAX);
+        let (refusal, expected) = match format {
+            Some(_) => {
+                let rust = read(&disc);
+                (refusal(rust.as_ref()), dump(rust.as_ref()))
+            }
+            None => (4, "refused 4\n".to_string()),
+        };
+        let kind = &mut self.without_format;
+        compare(kind, (case, &disc), refusal, &answer, &expected);
+        kind.class_if("no format found", format.is_none());
+        kind.class_if("another than given", format.is_some_and(|format| format != given));
+        Ok(())
+    }
+
+    /// What the command prints, and its exit status.
+    fn answer(&self, words: &[&str]) -> io::Result<(String, Option<i32>)> {
+        let output =
+            Command::new(&self.tables).arg("--dump").args(words).arg(&self.file).output()?;
+        Ok((String::from_utf8_lossy(&output.stdout).into_owned(), output.status.code()))
+    }
+}
+
+fn compare(
+    kind: &mut Kind,
+    (case, disc): (u64, &Disc),
+    refusal: u8,
+    answer: &(String, Option<i32>),
+    expected: &str,
+) {
+    let (printed, status) = answer;
+    let [ours, theirs] = differing(printed, expected);
+    let question = ("case", case, "format", disc.format, "bytes", disc.bytes.len());
+    kind.case(&question, refusal, (*status, ours), (Some(i32::from(refusal != 0)), theirs));
+    for (format, class) in [(0, "format 0"), (1, "format 1"), (2, "format 2")] {
+        kind.class_if(class, refusal == 0 && disc.format == format);
+    }
+}

@@ -1,0 +1,108 @@
+//! The table of what a run covered, as the documents have it.
+
+use crate::disc::{CODES, READS};
+use crate::tally::Kind;
+use scarletbook::{Refusal, WarningCode};
+
+/// A line: what it says, and the kind and its class that count it; all cases for no class.
+type Line = (String, &'static str, String);
+
+/// The lines of a run over discs, but for refusals and warnings.
+const DISCS: [(&str, &str, &str); 28] = [
+    ("images in format 0", READS, "image of format 0"),
+    ("images in format 1", READS, "image of format 1"),
+    ("images in format 2", READS, "image of format 2"),
+    ("images in a foreign format", READS, "foreign image"),
+    ("images in 01's domain", READS, "in the domain"),
+    ("images not in 01's domain", READS, "not in the domain"),
+    ("formats found, or none", "detect_format", ""),
+    ("images cut inside a sector", READS, "cut inside a sector"),
+    ("slots whose copies are equal", "discs, copies", "equal"),
+    ("slots whose copies are unequal", "discs, copies", "unequal"),
+    ("slots whose copies overlap", "discs, copies", "overlapping"),
+    ("slots with the first copy past the end", "discs, copies", "first past the end"),
+    ("slots with the second copy past the end", "discs, copies", "second past the end"),
+    ("slots with both copies past the end", "discs, copies", "both past the end"),
+    ("slots without a second copy", "discs, copies", "no second"),
+    ("slots whose copy lies over the master table", "discs, copies", "over the master"),
+    ("discs with areas in both slots", "discs, slots", "both yield"),
+    ("discs with an area in slot 1 alone", "discs, slots", "1 alone yields"),
+    ("discs with an area in slot 2 alone", "discs, slots", "2 alone yields"),
+    ("discs with `MULCHTOC` in slot 1", "discs, slots", "MULCHTOC in 1"),
+    ("discs with `TWOCHTOC` in slot 2", "discs, slots", "TWOCHTOC in 2"),
+    ("disc texts", "disc texts", ""),
+    ("area texts", "disc area texts", ""),
+    ("track texts", "disc track texts", ""),
+    ("texts by records that lie", "disc texts by lies", ""),
+    ("dumps", "dumps", ""),
+    ("lines of dumps", "dumps", "lines"),
+    ("lone tables", "read_table", ""),
+];
+
+/// The lines of the table, for a document.
+pub fn table(kinds: &[Kind]) -> String {
+    let mut table = row("Compared", "Count") + &row("---", "---:");
+    for (words, kind, class) in lines() {
+        let Some(kind) = kinds.iter().find(|other| other.name == kind) else { continue };
+        let count = if class.is_empty() { kind.cases } else { kind.count(&class) };
+        table += &row(&words, &grouped(count));
+    }
+    let classes = kinds.iter().map(|kind| kind.classes.len() as u64).sum();
+    let scant = kinds.iter().map(|kind| kind.scant_classes().count() as u64).sum();
+    let cases = kinds.iter().map(|kind| kind.cases).sum();
+    let differences = kinds.iter().map(|kind| kind.differences).sum();
+    let sums = [
+        ("classes of cases", classes),
+        ("classes with too few cases", scant),
+        ("all answers", cases),
+        ("differences", differences),
+    ];
+    table + &sums.map(|(words, count)| row(words, &grouped(count))).concat()
+}
+
+fn lines() -> Vec<Line> {
+    let line = |words: &str, kind, class: &str| (words.to_string(), kind, class.to_string());
+    let mut lines = vec![line("images", READS, ""), line("accepted", READS, "accepted")];
+    for refusal in &Refusal::ALL[..6] {
+        lines.push((refusal.to_string(), CODES, format!("refusal {}", refusal.number())));
+    }
+    for code in WarningCode::ALL {
+        let number = code as u8;
+        let words = format!("images with warning {number}, {}", code.code());
+        lines.push((words, CODES, format!("warning {number}")));
+    }
+    lines.extend(DISCS.map(|(words, kind, class)| line(words, kind, class)));
+    lines
+}
+
+fn row(words: &str, count: &str) -> String {
+    format!("| {words} | {count} |\n")
+}
+
+/// A number with a comma before each three digits.
+fn grouped(number: u64) -> String {
+    let digits = number.to_string();
+    let mut grouped = String::new();
+    for (i, digit) in digits.chars().enumerate() {
+        if i > 0 && (digits.len() - i).is_multiple_of(3) {
+            grouped.push(',');
+        }
+        grouped.push(digit);
+    }
+    grouped
+}
+
+#[test]
+fn numbers_are_grouped() {
+    assert_eq!([0, 999, 1000, 1_234_567].map(grouped), ["0", "999", "1,000", "1,234,567"]);
+}
+
+#[test]
+fn every_line_has_its_class() {
+    let kinds = crate::disc::kinds(1, 0);
+    for (words, kind, class) in lines().iter().filter(|line| line.1 != "read_table") {
+        let kind = kinds.iter().find(|other| other.name == *kind).expect(words);
+        let known = class.is_empty() || kind.classes.iter().any(|other| other.0 == class);
+        assert!(known || class == "warning 16", "{words}");
+    }
+}
