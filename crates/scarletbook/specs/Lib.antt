@@ -1,1 +1,4 @@
 pub mod Answers
+pub mod Numbered
+pub mod Same
+pub mod Layout

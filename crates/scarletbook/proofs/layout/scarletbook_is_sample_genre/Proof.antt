@@ -1,0 +1,21 @@
+-- `scarletbook::layout::scarletbook_is_sample_genre` meets its contract. Assumes nothing.
+use borrow.Author.Needs.{needs}
+use Rattle.scarletbook.proofs.layout.scarletbook_is_sample_genre.Statement.{statement}
+use Rattle.scarletbook.proofs.layout.scarletbook_is_sample_genre.Tie as tie
+
+scarletbook-sample-genre-requires : tie.Need-scarletbook-sample-genre-requires
+scarletbook-sample-genre-requires c κs = search needs
+
+same-genre-requires : tie.Need-same-genre-requires
+same-genre-requires c κs = search needs
+
+flag-requires : tie.Need-flag-requires
+flag-requires c κs = search needs
+
+returns : tie.Need-returns
+returns c = rw (c .flag .ensures, c .before .same-genre .ensures, c .before .before .scarletbook-sample-genre .ensures)
+
+pub scarletbook-is-sample-genre-spec : {M : Type 1} → statement M
+scarletbook-is-sample-genre-spec =
+    tie.close
+    (tie.spec scarletbook-sample-genre-requires same-genre-requires flag-requires returns)

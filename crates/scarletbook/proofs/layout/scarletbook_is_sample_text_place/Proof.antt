@@ -1,0 +1,25 @@
+-- `scarletbook::layout::scarletbook_is_sample_text_place` meets its contract. Assumes nothing.
+use borrow.Author.Needs.{needs}
+use Rattle.scarletbook.proofs.layout.scarletbook_is_sample_text_place.Statement.{statement}
+use Rattle.scarletbook.proofs.layout.scarletbook_is_sample_text_place.Tie as tie
+
+scarletbook-sample-text-place-requires : tie.Need-scarletbook-sample-text-place-requires
+scarletbook-sample-text-place-requires c κs = search needs
+
+same-text-place-requires : tie.Need-same-text-place-requires
+same-text-place-requires c κs = search needs
+
+flag-requires : tie.Need-flag-requires
+flag-requires c κs = search needs
+
+returns : tie.Need-returns
+returns c = rw (c .flag .ensures, c .before .same-text-place .ensures, c .before .before .scarletbook-sample-text-place .ensures)
+
+pub scarletbook-is-sample-text-place-spec : {M : Type 1} → statement M
+scarletbook-is-sample-text-place-spec =
+    tie.close
+    (tie.spec
+    scarletbook-sample-text-place-requires
+    same-text-place-requires
+    flag-requires
+    returns)

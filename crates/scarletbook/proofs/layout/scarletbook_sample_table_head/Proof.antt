@@ -1,0 +1,19 @@
+-- `scarletbook::layout::scarletbook_sample_table_head` meets its contract. Assumes nothing.
+use borrow.Author.Needs.{needs}
+use Rattle.scarletbook.specs.Numbered.{sampleTableHead}
+use Rattle.scarletbook.proofs.layout.scarletbook_sample_table_head.Statement.{statement}
+use Rattle.scarletbook.proofs.layout.scarletbook_sample_table_head.Tie as tie
+
+area-from-requires : tie.Need-area-from-requires
+area-from-requires c κs = search needs
+
+chain-from-requires : tie.Need-chain-from-requires
+chain-from-requires c κs = search needs
+
+returns : tie.Need-returns
+unfolding sampleTableHead
+returns c = rw (c .before .area-from .ensures, c .chain-from .ensures)
+
+pub scarletbook-sample-table-head-spec : {M : Type 1} → statement M
+scarletbook-sample-table-head-spec =
+    tie.close (tie.spec area-from-requires chain-from-requires returns)
