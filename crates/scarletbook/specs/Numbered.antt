@@ -1,4 +1,5 @@
--- Records by which a declaration is held to the library: every scalar field has another value, which tells its place and its width.
+-- "each record with every field different": records by which a declaration is held to the library. A field's value tells its place and its
+-- width.
 -- Assumes nothing.
 use Prim.Native.Nat.{ℕ, zero, suc, _+_, _*_}
 use mathlib.Core.List.{List, [], _∷_, _++_}
@@ -32,7 +33,7 @@ use Rattle.disc.specs.declared.master.MasterToc.{MasterToc}
 use Rattle.scarletbook.specs.declared.CapAnswer.{CapAnswer}
 use Rattle.scarletbook.specs.declared.DrawAnswer.{DrawAnswer}
 
--- "Leaf k has the value k if it is a u8, 1000 + k for a u16, 100000000 + k for a u32 .. and 10^18 + k for a u64 or usize"
+-- the value of a field of two, four and eight bytes, by its number; that of a byte is its number
 unfoldable pub leaf16 : ℕ → ℕ
 leaf16 n = 1000 + n
 
@@ -46,7 +47,7 @@ leaf64 n = 1000000000000000000 + n
 abbrev pub maxNumber : ℕ
 maxNumber = 200
 
--- ---- "number the scalar leaves of a record in declaration order", from a first number on
+-- ---- the scalar fields of a record are numbered in their order, from a first number on
 unfoldable pub languageCodeFrom : ℕ → LanguageCode
 languageCodeFrom n = record { bytes = n ∷ (n + 1) ∷ []; len = n + 2 }
 
@@ -90,7 +91,7 @@ textPlaceFrom n = record { place = leaf32 n }
 unfoldable pub chainFrom : ℕ → Chain
 chainFrom n = record { ttxt = leaf32 n; igl = leaf32 (n + 1); trl1 = leaf32 (n + 2); trl2 = leaf32 (n + 3) }
 
--- "arrays element by element": as many records, each numbered on from the one before
+-- arrays: as many records, each numbered on from the one before
 unfoldable pub localesFrom : ℕ → ℕ → List Locale
 localesFrom zero n = []
 localesFrom (suc count) n = localesFrom count n ++ (localeFrom (n + 6 * count) ∷ [])
@@ -103,7 +104,7 @@ unfoldable pub genresFrom : ℕ → ℕ → List Genre
 genresFrom zero n = []
 genresFrom (suc count) n = genresFrom count n ++ (genreFrom (n + 2 * count) ∷ [])
 
--- "nested records in place"
+-- records in a record are numbered in place
 unfoldable pub areaFrom : ℕ → Area
 areaFrom n = record {
   present = n;
