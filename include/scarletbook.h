@@ -1,6 +1,6 @@
 /*
  * scarletbook: reads the tables of contents of SACD images, by a library that is proved: every answer
- * equals a written definition, for every input. For C99, C11 and C++.
+ * equals a written definition, for every input. For C99, C11 and C++, on Linux and x86-64.
  *
  *     cc -Iinclude program.c host/target/archive/libscarletbook.a -o program
  *
@@ -18,7 +18,7 @@
  *   - It allocates nothing, keeps nothing and shares nothing: threads may call at the same time, as long as
  *     none writes what another is lent.
  *   - A refusal is a number, 0 for none. Except for refusal 6, a call that refuses writes nothing.
- *   - A flag in a record is a byte, 0 or 1.
+ *   - A flag in a record is a byte, 0 or 1. Sector addresses and frame numbers are plain numbers of 32 bits.
  */
 #ifndef SCARLETBOOK_H
 #define SCARLETBOOK_H
@@ -42,7 +42,7 @@ extern "C" {
 #define SCARLETBOOK_WARNING_WORDS 1537
 
 /* What the reading of a lone table is lent at least: records, words. */
-#define SCARLETBOOK_TABLE_TRACKS 255
+#define SCARLETBOOK_MAX_TRACKS 255
 #define SCARLETBOOK_TABLE_WORDS 766
 
 /* A page of so many bytes has room for every text. */
@@ -57,14 +57,11 @@ extern "C" {
 #define SCARLETBOOK_TWO_CHANNEL_FIRST 0
 #define SCARLETBOOK_MULTICHANNEL_FIRST 255
 
-/* The sectors of an area's table at most. */
-#define SCARLETBOOK_TABLE_SECTORS 128
-
 /* The elements of arrays in records. */
 #define SCARLETBOOK_FIXED_BYTES 16
 #define SCARLETBOOK_GENRES 4
-#define SCARLETBOOK_DISC_LOCALES 8
-#define SCARLETBOOK_AREA_LOCALES 10
+#define SCARLETBOOK_MASTER_LOCALES 8
+#define SCARLETBOOK_MAX_LOCALES 10
 #define SCARLETBOOK_DISC_TEXTS 16
 #define SCARLETBOOK_AREA_TEXTS 4
 #define SCARLETBOOK_TRACK_TEXTS 14
@@ -81,11 +78,11 @@ enum {
 
 enum {
     SCARLETBOOK_FOREIGN_FORMAT = 1,   /* the format is not 0, 1 or 2 */
-    SCARLETBOOK_SHORT_BENCH = 2,      /* less is lent than the call asks for */
+    SCARLETBOOK_SHORT_BUFFER = 2,      /* less is lent than the call asks for */
     SCARLETBOOK_CUT_MASTER = 3,       /* the image has fewer than 520 whole sectors */
     SCARLETBOOK_NOT_SCARLET_BOOK = 4, /* LSN 510 does not begin SACDMTOC */
     SCARLETBOOK_NEWER_EDITION = 5,    /* the master table's major version is above 1 */
-    SCARLETBOOK_SILENT_DISC = 6,      /* neither slot, or not the lone table, yields an area */
+    SCARLETBOOK_NO_AREA = 6,      /* neither slot, or not the lone table, yields an area */
     SCARLETBOOK_ODD_TABLE = 7,        /* a lone table of 0 bytes, over 262,144, or no multiple of 2,048 */
     SCARLETBOOK_NO_SUCH_ENTRY = 8,    /* no such track, item or area, or a sector not in the image */
     SCARLETBOOK_SET_NOT_HELD = 9,     /* a text that is there is of set 3, 4, 5 or 6 */
@@ -366,7 +363,7 @@ typedef struct scarletbook_area {
     uint32_t audio_end_lsn; /* inclusive */
     uint8_t text_channel_count;
     uint8_t locale_count;                                 /* how many locales are listed */
-    scarletbook_locale locales[SCARLETBOOK_AREA_LOCALES]; /* these, and zero past them */
+    scarletbook_locale locales[SCARLETBOOK_MAX_LOCALES]; /* these, and zero past them */
     uint8_t text_charset;
     scarletbook_text_place text[SCARLETBOOK_AREA_TEXTS];
 } scarletbook_area;
@@ -396,7 +393,7 @@ typedef struct scarletbook_master_toc {
     scarletbook_date date;
     uint8_t text_channel_count;
     uint8_t locale_count;                                 /* how many locales are listed */
-    scarletbook_locale locales[SCARLETBOOK_DISC_LOCALES]; /* these, and zero past them */
+    scarletbook_locale locales[SCARLETBOOK_MASTER_LOCALES]; /* these, and zero past them */
     uint8_t text_charset;
     scarletbook_text_place text[SCARLETBOOK_DISC_TEXTS]; /* places in sector 1 of the master table */
     uint8_t manufacturer; /* 1 if sector 9 of the master table is the manufacturer's */
@@ -531,7 +528,7 @@ scarletbook_decode_answer scarletbook_decode_disc_track_text(const uint8_t *work
  * Writes its tracks at the start of the records, its warnings at the start of the words; everything else stays
  * as it was. Refusal 6 writes its warning.
  *
- * Refused, in this order: 7; 2 for fewer than SCARLETBOOK_TABLE_TRACKS or _TABLE_WORDS; 6.
+ * Refused, in this order: 7; 2 for fewer than SCARLETBOOK_MAX_TRACKS or _TABLE_WORDS; 6.
  */
 scarletbook_table_answer scarletbook_read_table(const uint8_t *table, size_t table_len,
                                                 scarletbook_track *tracks, size_t tracks_len, uint32_t *words,
@@ -541,7 +538,7 @@ scarletbook_table_answer scarletbook_read_table(const uint8_t *table, size_t tab
  * The two below decode a text of a lone table, by its item, as those of discs do.
  *
  * Refused, in this order: 2 for a table shorter than the record's sectors (above 128 as 128), or, for tracks,
- * fewer than SCARLETBOOK_TABLE_TRACKS; 8 for no such item, area or track; 9; 10.
+ * fewer than SCARLETBOOK_MAX_TRACKS; 8 for no such item, area or track; 9; 10.
  */
 
 /* Decodes a text of an area. */

@@ -100,7 +100,7 @@ static void lone_tables(void)
     const uint8_t *table = image + TABLE * SCARLETBOOK_SECTOR_SIZE;
     const size_t size = 3 * SCARLETBOOK_SECTOR_SIZE;
     scarletbook_table_answer read =
-        scarletbook_read_table(table, size, tracks, SCARLETBOOK_TABLE_TRACKS, words, SCARLETBOOK_TABLE_WORDS);
+        scarletbook_read_table(table, size, tracks, SCARLETBOOK_MAX_TRACKS, words, SCARLETBOOK_TABLE_WORDS);
     CHECK(read.refusal == 0 && read.warnings == 1 && read.area.track_count == 1);
     CHECK(words[0] == 14u * 65536u + 256u + 1u && tracks[0].times.duration_frames == 4500);
     CHECK(tracks[0].start_lsn == 1000 && tracks[0].length_sectors == 500);
@@ -108,7 +108,7 @@ static void lone_tables(void)
         scarletbook_decode_area_text(table, size, read.area, SCARLETBOOK_AREA_DESCRIPTION, page, sizeof page);
     CHECK(text.refusal == 0 && text.len == 4);
     tracks[0].text[SCARLETBOOK_TRACK_MESSAGE].place = 1794;
-    text = scarletbook_decode_track_text(table, size, read.area, tracks, SCARLETBOOK_TABLE_TRACKS, 1,
+    text = scarletbook_decode_track_text(table, size, read.area, tracks, SCARLETBOOK_MAX_TRACKS, 1,
                                          SCARLETBOOK_TRACK_MESSAGE, page, sizeof page);
     CHECK(text.refusal == 0 && text.len == 2 && memcmp(page, "ea", 2) == 0);
     scarletbook_table_head_record head = scarletbook_table_head(table, size, 2, 77, 3);
@@ -132,7 +132,7 @@ static void sectors(void)
     CHECK(scarletbook_contains(format, sizeof raw, 2, 1) && !scarletbook_contains(format, sizeof raw, 1, 3));
     CHECK(scarletbook_read_sectors(format, raw, sizeof raw, 2, 1, data, sizeof data, 2) == 0);
     CHECK(memcmp(data, "\0\0data\0", 7) == 0);
-    CHECK(scarletbook_read_sectors(format, raw, sizeof raw, 2, 1, data, sizeof data, 3) == SCARLETBOOK_SHORT_BENCH);
+    CHECK(scarletbook_read_sectors(format, raw, sizeof raw, 2, 1, data, sizeof data, 3) == SCARLETBOOK_SHORT_BUFFER);
     CHECK(scarletbook_compare_sectors(format, raw, sizeof raw, 2, 1, data + 2, sizeof data - 2).equal == 1);
     CHECK(scarletbook_compare_sectors(format, raw, sizeof raw, 1, 1, data + 2, sizeof data - 2).equal == 0);
     CHECK(scarletbook_audit(format, raw, sizeof raw, 2).sound == 1);
@@ -182,17 +182,17 @@ static void no_memory(void)
     area.origin.slot = 1;
     area.track_count = 1;
     CHECK(scarletbook_detect_format(NULL, 0).refusal == SCARLETBOOK_NOT_SCARLET_BOOK);
-    CHECK(scarletbook_read_disc(0, NULL, 0, NULL, 0, NULL, 0, NULL, 0).refusal == SCARLETBOOK_SHORT_BENCH);
+    CHECK(scarletbook_read_disc(0, NULL, 0, NULL, 0, NULL, 0, NULL, 0).refusal == SCARLETBOOK_SHORT_BUFFER);
     CHECK(scarletbook_read_disc(0, NULL, 0, work, sizeof work, tracks, SCARLETBOOK_TRACK_RECORDS, words,
                                 SCARLETBOOK_WARNING_WORDS).refusal == SCARLETBOOK_CUT_MASTER);
-    CHECK(scarletbook_decode_disc_text(NULL, 0, master, 0, NULL, 0).refusal == SCARLETBOOK_SHORT_BENCH);
+    CHECK(scarletbook_decode_disc_text(NULL, 0, master, 0, NULL, 0).refusal == SCARLETBOOK_SHORT_BUFFER);
     CHECK(scarletbook_decode_disc_text(work, sizeof work, master, 0, NULL, 0).refusal == 0);
-    CHECK(scarletbook_decode_disc_area_text(NULL, 0, area, 0, NULL, 0).refusal == SCARLETBOOK_SHORT_BENCH);
+    CHECK(scarletbook_decode_disc_area_text(NULL, 0, area, 0, NULL, 0).refusal == SCARLETBOOK_SHORT_BUFFER);
     CHECK(scarletbook_decode_disc_track_text(NULL, 0, area, NULL, 0, 1, 0, NULL, 0).refusal ==
-          SCARLETBOOK_SHORT_BENCH);
+          SCARLETBOOK_SHORT_BUFFER);
     CHECK(scarletbook_read_table(NULL, 0, NULL, 0, NULL, 0).refusal == SCARLETBOOK_ODD_TABLE);
     CHECK(scarletbook_decode_area_text(NULL, 0, area, 0, NULL, 0).refusal == 0);
-    CHECK(scarletbook_decode_track_text(NULL, 0, area, NULL, 0, 1, 0, NULL, 0).refusal == SCARLETBOOK_SHORT_BENCH);
+    CHECK(scarletbook_decode_track_text(NULL, 0, area, NULL, 0, 1, 0, NULL, 0).refusal == SCARLETBOOK_SHORT_BUFFER);
     CHECK(scarletbook_table_head(NULL, 0, 1, 0, 1).skip == SCARLETBOOK_AREA_SIGNATURE_INVALID);
     CHECK(scarletbook_draw_at(NULL, 0, 0, 1).found == 0);
 }

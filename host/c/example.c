@@ -56,8 +56,12 @@ int main(int argc, char **argv)
 {
     struct stat status;
     int file = argc == 2 ? open(argv[1], O_RDONLY) : -1;
+    if (argc != 2) {
+        fprintf(stderr, "usage: example IMAGE\n");
+        return 2;
+    }
     if (file < 0 || fstat(file, &status) != 0) {
-        perror(argc == 2 ? argv[1] : "example IMAGE");
+        perror(argv[1]);
         return 2;
     }
     size_t size = (size_t)status.st_size;

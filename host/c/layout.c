@@ -54,234 +54,241 @@ SCALAR(uint32_t, 100000000u)
 SCALAR(uint64_t, UINT64_C(1000000000000000000))
 SCALAR(size_t, (size_t)UINT64_C(1000000000000000000))
 
-/* A field of `count` elements, in a function that walks the record `r`. */
-#define FIELD(type, field, count)                                                     \
-    do {                                                                              \
-        size_t offset = (size_t)((char *)&r->field - (char *)r);                      \
-        size_t i;                                                                     \
-        if (enter(walk, #field, offset, sizeof r->field, (count) * sizeof(type)))     \
-            for (i = 0; i < (count); i++)                                             \
-                walk_##type(walk, (type *)(void *)&r->field + i);                     \
+/* A field, and one of `count` elements, in a function that walks the record `r`. */
+#define PLACE(field) (size_t)((char *)&r->field - (char *)r)
+
+#define FIELD(type, field)                                                       \
+    do {                                                                         \
+        if (enter(walk, #field, PLACE(field), sizeof r->field, sizeof(type)))    \
+            walk_##type(walk, &r->field);                                        \
+    } while (0)
+
+#define ARRAY(type, field, count)                                                        \
+    do {                                                                                 \
+        size_t i;                                                                        \
+        if (enter(walk, #field, PLACE(field), sizeof r->field, (count) * sizeof(type)))  \
+            for (i = 0; i < (count); i++)                                                \
+                walk_##type(walk, &r->field[i]);                                         \
     } while (0)
 
 #define RECORD(type) static void walk_##type(struct walk *walk, type *r)
 
 RECORD(scarletbook_fixed_text_record)
 {
-    FIELD(uint8_t, bytes, 16);
-    FIELD(uint8_t, len, 1);
+    ARRAY(uint8_t, bytes, 16);
+    FIELD(uint8_t, len);
 }
 
 RECORD(scarletbook_language_code)
 {
-    FIELD(uint8_t, bytes, 2);
-    FIELD(uint8_t, len, 1);
+    ARRAY(uint8_t, bytes, 2);
+    FIELD(uint8_t, len);
 }
 
 RECORD(scarletbook_locale)
 {
-    FIELD(scarletbook_language_code, language, 1);
-    FIELD(uint8_t, language_code, 2);
-    FIELD(uint8_t, charset, 1);
+    FIELD(scarletbook_language_code, language);
+    ARRAY(uint8_t, language_code, 2);
+    FIELD(uint8_t, charset);
 }
 
 RECORD(scarletbook_timecode)
 {
-    FIELD(uint8_t, minutes, 1);
-    FIELD(uint8_t, seconds, 1);
-    FIELD(uint8_t, frames, 1);
+    FIELD(uint8_t, minutes);
+    FIELD(uint8_t, seconds);
+    FIELD(uint8_t, frames);
 }
 
 RECORD(scarletbook_genre)
 {
-    FIELD(uint8_t, category, 1);
-    FIELD(uint8_t, index, 1);
+    FIELD(uint8_t, category);
+    FIELD(uint8_t, index);
 }
 
 RECORD(scarletbook_version)
 {
-    FIELD(uint8_t, major, 1);
-    FIELD(uint8_t, minor, 1);
+    FIELD(uint8_t, major);
+    FIELD(uint8_t, minor);
 }
 
 RECORD(scarletbook_date)
 {
-    FIELD(uint16_t, year, 1);
-    FIELD(uint8_t, month, 1);
-    FIELD(uint8_t, day, 1);
+    FIELD(uint16_t, year);
+    FIELD(uint8_t, month);
+    FIELD(uint8_t, day);
 }
 
 RECORD(scarletbook_area_pointer)
 {
-    FIELD(uint32_t, toc1_lsn, 1);
-    FIELD(uint32_t, toc2_lsn, 1);
-    FIELD(uint16_t, toc_sectors, 1);
+    FIELD(uint32_t, toc1_lsn);
+    FIELD(uint32_t, toc2_lsn);
+    FIELD(uint16_t, toc_sectors);
 }
 
 RECORD(scarletbook_table_origin)
 {
-    FIELD(uint8_t, slot, 1);
-    FIELD(uint32_t, toc_lsn, 1);
-    FIELD(uint16_t, toc_sectors, 1);
+    FIELD(uint8_t, slot);
+    FIELD(uint32_t, toc_lsn);
+    FIELD(uint16_t, toc_sectors);
 }
 
 RECORD(scarletbook_track_times)
 {
-    FIELD(uint32_t, start_frame, 1);
-    FIELD(uint32_t, duration_frames, 1);
+    FIELD(uint32_t, start_frame);
+    FIELD(uint32_t, duration_frames);
 }
 
 RECORD(scarletbook_text_place)
 {
-    FIELD(uint32_t, place, 1);
+    FIELD(uint32_t, place);
 }
 
 RECORD(scarletbook_comparison)
 {
-    FIELD(uint8_t, refusal, 1);
-    FIELD(uint8_t, equal, 1);
+    FIELD(uint8_t, refusal);
+    FIELD(uint8_t, equal);
 }
 
 RECORD(scarletbook_fingerprint_answer)
 {
-    FIELD(uint8_t, refusal, 1);
-    FIELD(uint64_t, digest, 1);
+    FIELD(uint8_t, refusal);
+    FIELD(uint64_t, digest);
 }
 
 RECORD(scarletbook_audit_answer)
 {
-    FIELD(uint8_t, refusal, 1);
-    FIELD(uint8_t, sound, 1);
+    FIELD(uint8_t, refusal);
+    FIELD(uint8_t, sound);
 }
 
 RECORD(scarletbook_decode_answer)
 {
-    FIELD(uint8_t, refusal, 1);
-    FIELD(size_t, len, 1);
+    FIELD(uint8_t, refusal);
+    FIELD(size_t, len);
 }
 
 RECORD(scarletbook_detect_answer)
 {
-    FIELD(uint8_t, refusal, 1);
-    FIELD(uint32_t, sector_format, 1);
+    FIELD(uint8_t, refusal);
+    FIELD(uint32_t, sector_format);
 }
 
 RECORD(scarletbook_cap_answer)
 {
-    FIELD(uint32_t, start_frame, 1);
-    FIELD(uint32_t, duration_frames, 1);
-    FIELD(uint8_t, past_playtime, 1);
+    FIELD(uint32_t, start_frame);
+    FIELD(uint32_t, duration_frames);
+    FIELD(uint8_t, past_playtime);
 }
 
 RECORD(scarletbook_draw_answer)
 {
-    FIELD(uint8_t, found, 1);
-    FIELD(uint8_t, kind, 1);
-    FIELD(size_t, place, 1);
-    FIELD(size_t, len, 1);
-    FIELD(size_t, next, 1);
-    FIELD(size_t, left, 1);
+    FIELD(uint8_t, found);
+    FIELD(uint8_t, kind);
+    FIELD(size_t, place);
+    FIELD(size_t, len);
+    FIELD(size_t, next);
+    FIELD(size_t, left);
 }
 
 RECORD(scarletbook_chain)
 {
-    FIELD(uint32_t, ttxt, 1);
-    FIELD(uint32_t, igl, 1);
-    FIELD(uint32_t, trl1, 1);
-    FIELD(uint32_t, trl2, 1);
+    FIELD(uint32_t, ttxt);
+    FIELD(uint32_t, igl);
+    FIELD(uint32_t, trl1);
+    FIELD(uint32_t, trl2);
 }
 
 RECORD(scarletbook_track)
 {
-    FIELD(uint8_t, number, 1);
-    FIELD(uint32_t, start_lsn, 1);
-    FIELD(uint32_t, length_sectors, 1);
-    FIELD(scarletbook_track_times, times, 1);
-    FIELD(uint8_t, start_flags, 1);
-    FIELD(uint8_t, duration_flags, 1);
-    FIELD(uint8_t, has_isrc, 1);
-    FIELD(scarletbook_fixed_text_record, isrc, 1);
-    FIELD(uint8_t, has_genre, 1);
-    FIELD(scarletbook_genre, genre, 1);
-    FIELD(scarletbook_text_place, text, 14);
+    FIELD(uint8_t, number);
+    FIELD(uint32_t, start_lsn);
+    FIELD(uint32_t, length_sectors);
+    FIELD(scarletbook_track_times, times);
+    FIELD(uint8_t, start_flags);
+    FIELD(uint8_t, duration_flags);
+    FIELD(uint8_t, has_isrc);
+    FIELD(scarletbook_fixed_text_record, isrc);
+    FIELD(uint8_t, has_genre);
+    FIELD(scarletbook_genre, genre);
+    ARRAY(scarletbook_text_place, text, 14);
 }
 
 RECORD(scarletbook_area)
 {
-    FIELD(uint8_t, present, 1);
-    FIELD(scarletbook_table_origin, origin, 1);
-    FIELD(uint8_t, kind, 1);
-    FIELD(scarletbook_version, version, 1);
-    FIELD(uint32_t, max_byte_rate, 1);
-    FIELD(uint8_t, sample_frequency_code, 1);
-    FIELD(uint8_t, frame_format, 1);
-    FIELD(uint8_t, channel_count, 1);
-    FIELD(uint8_t, area_config, 1);
-    FIELD(uint8_t, max_available_channels, 1);
-    FIELD(uint8_t, area_mute_flags, 1);
-    FIELD(uint8_t, track_attribute, 1);
-    FIELD(scarletbook_timecode, playtime, 1);
-    FIELD(uint8_t, track_offset, 1);
-    FIELD(uint16_t, track_count, 1);
-    FIELD(uint32_t, audio_start_lsn, 1);
-    FIELD(uint32_t, audio_end_lsn, 1);
-    FIELD(uint8_t, text_channel_count, 1);
-    FIELD(uint8_t, locale_count, 1);
-    FIELD(scarletbook_locale, locales, 10);
-    FIELD(uint8_t, text_charset, 1);
-    FIELD(scarletbook_text_place, text, 4);
+    FIELD(uint8_t, present);
+    FIELD(scarletbook_table_origin, origin);
+    FIELD(uint8_t, kind);
+    FIELD(scarletbook_version, version);
+    FIELD(uint32_t, max_byte_rate);
+    FIELD(uint8_t, sample_frequency_code);
+    FIELD(uint8_t, frame_format);
+    FIELD(uint8_t, channel_count);
+    FIELD(uint8_t, area_config);
+    FIELD(uint8_t, max_available_channels);
+    FIELD(uint8_t, area_mute_flags);
+    FIELD(uint8_t, track_attribute);
+    FIELD(scarletbook_timecode, playtime);
+    FIELD(uint8_t, track_offset);
+    FIELD(uint16_t, track_count);
+    FIELD(uint32_t, audio_start_lsn);
+    FIELD(uint32_t, audio_end_lsn);
+    FIELD(uint8_t, text_channel_count);
+    FIELD(uint8_t, locale_count);
+    ARRAY(scarletbook_locale, locales, 10);
+    FIELD(uint8_t, text_charset);
+    ARRAY(scarletbook_text_place, text, 4);
 }
 
 RECORD(scarletbook_table_head_record)
 {
-    FIELD(uint8_t, skip, 1);
-    FIELD(scarletbook_area, area, 1);
-    FIELD(scarletbook_chain, chain, 1);
+    FIELD(uint8_t, skip);
+    FIELD(scarletbook_area, area);
+    FIELD(scarletbook_chain, chain);
 }
 
 RECORD(scarletbook_table_answer)
 {
-    FIELD(uint8_t, refusal, 1);
-    FIELD(size_t, warnings, 1);
-    FIELD(scarletbook_area, area, 1);
+    FIELD(uint8_t, refusal);
+    FIELD(size_t, warnings);
+    FIELD(scarletbook_area, area);
 }
 
 RECORD(scarletbook_master_toc)
 {
-    FIELD(scarletbook_version, version, 1);
-    FIELD(uint16_t, album_set_size, 1);
-    FIELD(uint16_t, album_sequence_number, 1);
-    FIELD(scarletbook_fixed_text_record, album_catalog_number, 1);
-    FIELD(scarletbook_fixed_text_record, album_catalog_number_stored, 1);
-    FIELD(scarletbook_genre, album_genres, 4);
-    FIELD(scarletbook_area_pointer, two_channel, 1);
-    FIELD(scarletbook_area_pointer, multichannel, 1);
-    FIELD(uint8_t, disc_flags, 1);
-    FIELD(scarletbook_fixed_text_record, disc_catalog_number, 1);
-    FIELD(scarletbook_fixed_text_record, disc_catalog_number_stored, 1);
-    FIELD(scarletbook_genre, disc_genres, 4);
-    FIELD(scarletbook_date, date, 1);
-    FIELD(uint8_t, text_channel_count, 1);
-    FIELD(uint8_t, locale_count, 1);
-    FIELD(scarletbook_locale, locales, 8);
-    FIELD(uint8_t, text_charset, 1);
-    FIELD(scarletbook_text_place, text, 16);
-    FIELD(uint8_t, manufacturer, 1);
+    FIELD(scarletbook_version, version);
+    FIELD(uint16_t, album_set_size);
+    FIELD(uint16_t, album_sequence_number);
+    FIELD(scarletbook_fixed_text_record, album_catalog_number);
+    FIELD(scarletbook_fixed_text_record, album_catalog_number_stored);
+    ARRAY(scarletbook_genre, album_genres, 4);
+    FIELD(scarletbook_area_pointer, two_channel);
+    FIELD(scarletbook_area_pointer, multichannel);
+    FIELD(uint8_t, disc_flags);
+    FIELD(scarletbook_fixed_text_record, disc_catalog_number);
+    FIELD(scarletbook_fixed_text_record, disc_catalog_number_stored);
+    ARRAY(scarletbook_genre, disc_genres, 4);
+    FIELD(scarletbook_date, date);
+    FIELD(uint8_t, text_channel_count);
+    FIELD(uint8_t, locale_count);
+    ARRAY(scarletbook_locale, locales, 8);
+    FIELD(uint8_t, text_charset);
+    ARRAY(scarletbook_text_place, text, 16);
+    FIELD(uint8_t, manufacturer);
 }
 
 /* The numbers of its three large fields begin again. */
 RECORD(scarletbook_disc_answer)
 {
-    FIELD(uint8_t, refusal, 1);
-    FIELD(size_t, warnings, 1);
-    FIELD(uint32_t, sector_format, 1);
-    FIELD(size_t, sectors, 1);
+    FIELD(uint8_t, refusal);
+    FIELD(size_t, warnings);
+    FIELD(uint32_t, sector_format);
+    FIELD(size_t, sectors);
     walk->number = 0;
-    FIELD(scarletbook_master_toc, master, 1);
+    FIELD(scarletbook_master_toc, master);
     walk->number = 0;
-    FIELD(scarletbook_area, two_channel, 1);
+    FIELD(scarletbook_area, two_channel);
     walk->number = 100;
-    FIELD(scarletbook_area, multichannel, 1);
+    FIELD(scarletbook_area, multichannel);
 }
 
 /* Every record that has a sample: its name and its type. */

@@ -11,8 +11,9 @@ use generate::table::{put, put16, put32};
 use oracle::disc::{Disc as Rust, read_disc as read_toc};
 use oracle::image::SectorFormat;
 use scarletbook::raw::{
-    DISC_TEXTS, DISC_TRACKS, DISC_WORDS, DecodeAnswer, DiscAnswer, FIRST_TRACKS, TRACK_TEXTS,
-    Track, WORK_BYTES, decode_disc_area_text, decode_disc_text, decode_disc_track_text, read_disc,
+    DISC_TEXTS, DecodeAnswer, DiscAnswer, FIRST_TRACKS, TRACK_RECORDS, TRACK_TEXTS, Track,
+    WARNING_WORDS, WORK_BYTES, decode_disc_area_text, decode_disc_text, decode_disc_track_text,
+    read_disc,
 };
 use std::hint::black_box;
 
@@ -121,8 +122,8 @@ fn places(plan: Plan, format: u32) -> Vec<Disc> {
         let Image { bytes, .. } = plan.image(format);
         let image = room(bytes.len(), 0);
         image.copy_from_slice(&bytes);
-        let tracks = vec![Track::default(); DISC_TRACKS];
-        let (work, words, page) = (room(WORK_BYTES, 2048), vec![0; DISC_WORDS], vec![0; 8192]);
+        let tracks = vec![Track::default(); TRACK_RECORDS];
+        let (work, words, page) = (room(WORK_BYTES, 2048), vec![0; WARNING_WORDS], vec![0; 8192]);
         let copy = room(plan.touched() * DATA, 2048);
         Disc { plan, format, image, work, tracks, words, page, copy }
     };

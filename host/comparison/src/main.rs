@@ -14,6 +14,7 @@ mod fields;
 mod guard;
 mod headers;
 mod heads;
+mod layouts;
 mod lone;
 mod noise;
 mod numbers;
@@ -73,7 +74,8 @@ fn all(options: &Options) -> Vec<Kind> {
     let texts = [string_bytes, charset, decode, fixed_bytes, fixed_text, language];
     let times = [times.frame_number, times.cap];
     let below = sectors.into_iter().chain(numbers).chain(texts).chain(times);
-    below.chain(areas(options)).chain(disc::kinds(options.seed, options.count)).collect()
+    let areas = areas(options).into_iter().chain([layouts::kind()]);
+    below.chain(areas).chain(disc::kinds(options.seed, options.count)).collect()
 }
 
 fn texts(options: &Options) -> (Fields, Strings, Times) {
@@ -181,11 +183,12 @@ fn verdict(kinds: &[Kind]) -> u8 {
 }
 
 fn main() -> ExitCode {
-    if std::env::args().any(|word| word == "--help") {
+    let words = || std::env::args_os().skip(1).map(|word| word.to_string_lossy().into_owned());
+    if words().any(|word| word == "--help") {
         println!("{USAGE}");
         return ExitCode::SUCCESS;
     }
-    let Some(options) = options::options(std::env::args().skip(1)) else {
+    let Some(options) = options::options(words()) else {
         eprintln!("{USAGE}");
         return ExitCode::from(2);
     };

@@ -7,15 +7,12 @@ use crate::refusal::Refusal;
 use std::fmt;
 use std::ops::Deref;
 
-/// The bytes of the longest text: 4,096 characters of two bytes each.
-const PAGE: usize = 8192;
-
 /// The text that a decoding call puts on a page: nothing for an absent one, refused by 9 where a
 /// text is there whose set is not held.
 pub(crate) fn decoded(
     decode: impl FnOnce(&mut [u8]) -> record::DecodeAnswer,
 ) -> Result<Option<String>, Refusal> {
-    let mut page = [0; PAGE];
+    let mut page = [0; record::PAGE_BYTES];
     let answer = decode(&mut page);
     Refusal::check(answer.refusal)?;
     let text = str::from_utf8(&page[..answer.len]).expect("decoding gives UTF-8");

@@ -3,7 +3,7 @@
 use crate::area::{Area, Lent, decoded, present};
 use crate::calls;
 use crate::item::DiscTextItem;
-use crate::record::{self, DISC_TRACKS, DISC_WORDS, REGIONS, SECTOR_SIZE, WORK_BYTES};
+use crate::record::{self, REGIONS, SECTOR_SIZE, TRACK_RECORDS, WARNING_WORDS, WORK_BYTES};
 use crate::refusal::{Refusal, Refused};
 use crate::warning::Warning;
 use std::borrow::Cow;
@@ -58,8 +58,8 @@ impl Disc<'static> {
     /// [`SectorFormat`]: crate::SectorFormat
     pub fn read(format: impl Into<u32>, image: &[u8]) -> Result<Self, Refused<Self>> {
         let mut work = vec![0; WORK_BYTES];
-        let mut tracks = vec![record::Track::default(); DISC_TRACKS];
-        let mut words = vec![0; DISC_WORDS];
+        let mut tracks = vec![record::Track::default(); TRACK_RECORDS];
+        let mut words = vec![0; WARNING_WORDS];
         let answer = calls::read_disc(format, image, &mut work, &mut tracks, &mut words);
         Disc { answer, work: work.into(), tracks: tracks.into(), words: words.into() }.checked()
     }
@@ -71,12 +71,12 @@ impl<'m> Disc<'m> {
     /// ```
     /// # mod small_disc { include!(concat!(env!("CARGO_MANIFEST_DIR"), "/examples/small_disc.rs")); }
     /// # let image = small_disc::plain();
-    /// use scarletbook::record::{DISC_TRACKS, DISC_WORDS, Track, WORK_BYTES};
+    /// use scarletbook::record::{TRACK_RECORDS, WARNING_WORDS, Track, WORK_BYTES};
     /// use scarletbook::{Disc, Memory, SectorFormat};
     ///
     /// let mut work = vec![0; WORK_BYTES];
-    /// let mut tracks = vec![Track::default(); DISC_TRACKS];
-    /// let mut words = vec![0; DISC_WORDS];
+    /// let mut tracks = vec![Track::default(); TRACK_RECORDS];
+    /// let mut words = vec![0; WARNING_WORDS];
     /// for image in [&image, &image] {
     ///     let memory = Memory { work: &mut work, tracks: &mut tracks, words: &mut words };
     ///     let disc = Disc::read_in(SectorFormat::Plain, image, memory)?;

@@ -17,7 +17,7 @@ macro_rules! items {
                 self as u32
             }
 
-            /// Its name, as the customer's Rust has it.
+            /// Its name, as aclater/scarletbook-rs has it.
             pub fn name(self) -> &'static str {
                 match self { $($items::$item => $name,)* }
             }

@@ -1,21 +1,25 @@
 //! Reads the tables of contents of SACD images, by a library that is proved: every answer equals a
 //! written definition, for every input. This crate is safe Rust over its C interface.
 //!
-//! ```no_run
+//! ```
+//! # mod small_disc { include!(concat!(env!("CARGO_MANIFEST_DIR"), "/examples/small_disc.rs")); }
+//! # let image = small_disc::plain();
 //! use scarletbook::{Disc, SectorFormat, TrackTextItem};
 //!
-//! let image = std::fs::read("disc.iso")?;
+//! // The bytes of an image file, read or mapped, are in `image`.
 //! let disc = Disc::read(SectorFormat::detect(&image)?, &image)?;
 //! for area in disc.areas() {
 //!     for track in area.tracks() {
-//!         let title = track.text(TrackTextItem::Title)?.unwrap_or_default();
-//!         println!("{}.{} {title}", area.slot(), track.number);
+//!         match track.text(TrackTextItem::Title) {
+//!             Ok(title) => println!("{}.{} {}", area.slot(), track.number, title.unwrap_or_default()),
+//!             Err(refusal) => println!("{}.{} ({refusal})", area.slot(), track.number),
+//!         }
 //!     }
 //! }
 //! for warning in disc.warnings() {
 //!     eprintln!("{warning}");
 //! }
-//! # Ok::<(), Box<dyn std::error::Error>>(())
+//! # Ok::<(), scarletbook::Refusal>(())
 //! ```
 //!
 //! Every call takes any bytes and any numbers, and always returns. What it refuses is a [`Refusal`],

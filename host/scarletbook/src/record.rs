@@ -1,10 +1,12 @@
-//! The records of the library, laid out as in C, with the names of the customer's Rust, and the sizes of lent memory.
+//! The records of the library, laid out as in C, with the names of aclater/scarletbook-rs, and the sizes of lent memory.
 //! Flags are bytes, 0 or 1.
 
 use std::fmt::{self, Write};
 
 /// The bytes of data in a sector.
 pub const SECTOR_SIZE: usize = 2048;
+/// A page of so many bytes has room for every text: 4,096 characters of two bytes each.
+pub const PAGE_BYTES: usize = 8192;
 /// The track records that [`read_table`](crate::raw::read_table) and [`decode_track_text`](crate::raw::decode_track_text) are lent at least.
 pub const MAX_TRACKS: usize = 255;
 /// The warning words that [`read_table`](crate::raw::read_table) is lent at least.
@@ -18,9 +20,9 @@ pub const TRACK_TEXTS: usize = 14;
 /// The work bytes that [`read_disc`](crate::raw::read_disc) and the decoding functions are lent at least.
 pub const WORK_BYTES: usize = 544_768;
 /// The track records that [`read_disc`](crate::raw::read_disc) and its decoding of track texts are lent at least.
-pub const DISC_TRACKS: usize = 510;
+pub const TRACK_RECORDS: usize = 510;
 /// The warning words that [`read_disc`](crate::raw::read_disc) is lent at least.
-pub const DISC_WORDS: usize = 1537;
+pub const WARNING_WORDS: usize = 1537;
 /// Where the tables of the two slots and the master table begin in the work bytes.
 pub const REGIONS: [usize; 3] = [0, 262_144, 524_288];
 /// The first track record of each slot.

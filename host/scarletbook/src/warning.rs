@@ -43,7 +43,7 @@ impl fmt::Display for Warning {
 
 macro_rules! codes {
     ($($(#[doc = $words:literal])* $name:ident = $number:literal $code:literal,)*) => {
-        /// What a warning says, numbered in the order of the customer's `WarningCode`.
+        /// What a warning says, numbered in the order of `WarningCode` of aclater/scarletbook-rs.
         #[derive(Clone, Copy, Debug, PartialEq, Eq, Hash, PartialOrd, Ord)]
         #[repr(u8)]
         pub enum WarningCode {
@@ -59,7 +59,7 @@ macro_rules! codes {
                 self as u8
             }
 
-            /// Its name in a catalogue, as the customer's Rust has it.
+            /// Its name in a catalogue, as aclater/scarletbook-rs has it.
             pub fn code(self) -> &'static str {
                 match self { $(WarningCode::$name => $code,)* }
             }

@@ -54,8 +54,8 @@ struct Lent {
 }
 
 fn lent() -> Lent {
-    let tracks = vec![Track::default(); DISC_TRACKS];
-    Lent { work: vec![9; WORK_BYTES], tracks, words: vec![9; DISC_WORDS] }
+    let tracks = vec![Track::default(); TRACK_RECORDS];
+    Lent { work: vec![9; WORK_BYTES], tracks, words: vec![9; WARNING_WORDS] }
 }
 
 fn read(format: u32, image: &[u8], lent: &mut Lent) -> DiscAnswer {

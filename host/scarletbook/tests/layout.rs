@@ -219,15 +219,26 @@ records! {
     }
 }
 
+/// The name of a refusal, a blank before each further word.
+fn name_of(refusal: Refusal) -> String {
+    let mut name = String::new();
+    for letter in format!("{refusal:?}").chars() {
+        name.push_str(if letter.is_uppercase() && !name.is_empty() { " " } else { "" });
+        name.push(letter);
+    }
+    name
+}
+
 /// A line of a name and its number for every constant.
 fn constants() -> Vec<(String, u32)> {
     let sizes = [
         ("SECTOR_SIZE", SECTOR_SIZE),
         ("WORK_BYTES", WORK_BYTES),
-        ("TRACK_RECORDS", DISC_TRACKS),
-        ("WARNING_WORDS", DISC_WORDS),
-        ("TABLE_TRACKS", MAX_TRACKS),
+        ("TRACK_RECORDS", TRACK_RECORDS),
+        ("WARNING_WORDS", WARNING_WORDS),
+        ("MAX_TRACKS", MAX_TRACKS),
         ("TABLE_WORDS", TABLE_WORDS),
+        ("PAGE_BYTES", PAGE_BYTES),
         ("TWO_CHANNEL_REGION", REGIONS[0]),
         ("MULTICHANNEL_REGION", REGIONS[1]),
         ("MASTER_REGION", REGIONS[2]),
@@ -236,7 +247,7 @@ fn constants() -> Vec<(String, u32)> {
     ];
     let sizes = sizes.map(|(name, size)| (name.to_owned(), size as u32));
     let formats = SectorFormat::ALL.map(|format| (format!("{format:?}"), format.number()));
-    let refusals = Refusal::ALL.map(|refusal| (refusal.word().to_owned(), refusal.number().into()));
+    let refusals = Refusal::ALL.map(|refusal| (name_of(refusal), refusal.number().into()));
     let codes = WarningCode::ALL.map(|code| (code.code().to_owned(), code as u32));
     let disc = DiscTextItem::ALL.map(|item| (item.name().to_owned(), item.index()));
     let area = AreaTextItem::ALL.map(|item| (format!("area_{}", item.name()), item.index()));

@@ -10,8 +10,8 @@ use scarletbook::{Area, Disc, DiscTextItem, Track, TrackTextItem};
 const FRAME_RATE: u32 = 75;
 /// The flag of a disc with a CD layer.
 const HYBRID: u8 = 0x80;
-/// Longer cells of a column do not widen it.
-const WIDEST: usize = 40;
+/// The characters of a column at most; longer cells stick out.
+const WIDEST: usize = 60;
 /// The columns before this one are numbers and times.
 const FIRST_TEXT: usize = 3;
 
@@ -79,13 +79,14 @@ fn area_head(area: &Area) -> String {
         1 => "1 track".to_owned(),
         count => format!("{count} tracks"),
     };
-    let (layout, playtime) = (layout(area), time(frame_number(area.playtime)));
+    let layout = layout(area.channel_count, area.area_config);
+    let playtime = time(frame_number(area.playtime));
     format!("Area {} ({kind}): {layout}, play time {playtime}, {tracks}", area.slot())
 }
 
-/// The layout of the loudspeakers.
-fn layout(area: &Area) -> String {
-    match (area.channel_count, area.area_config & 7) {
+/// The layout of the loudspeakers, by the channels and the low three bits of the configuration.
+pub fn layout(channel_count: u8, area_config: u8) -> String {
+    match (channel_count, area_config & 7) {
         (2, 0) => "stereo".to_owned(),
         (5, 3) => "5 channels (3/2)".to_owned(),
         (6, 4) => "5.1".to_owned(),
@@ -136,7 +137,7 @@ fn table(rows: &[Vec<String>]) -> String {
 /// The characters of a column's longest cell.
 fn width(rows: &[Vec<String>], column: usize) -> usize {
     let widths = rows.iter().map(|row| row[column].chars().count());
-    widths.filter(|&width| width <= WIDEST).max().unwrap_or(0)
+    widths.max().unwrap_or(0).min(WIDEST)
 }
 
 /// A frame number as minutes, seconds and frames: mm:ss.ff.
@@ -193,14 +194,27 @@ mod tests {
             row(["255", "00:00.00", "00:00.00", "Rondo", "", ""]),
             row(["3", "", "", &long, "", "B"]),
         ];
+        let wide = |title: &str| format!("{title:<WIDEST$}");
         let lines = [
-            "  Track     Start   Duration  Title  ISRC\n",
-            "      1  00:00.00  100:00.00  Été    A\n",
-            "    255  00:00.00   00:00.00  Rondo\n",
-            &format!("      3                       {long}  B\n"),
+            format!("  Track     Start   Duration  {}  ISRC\n", wide("Title")),
+            format!("      1  00:00.00  100:00.00  {}  A\n", wide("Été")),
+            "    255  00:00.00   00:00.00  Rondo\n".to_owned(),
+            format!("      3                       {long}  B\n"),
         ];
         assert_eq!(table(&rows), lines.concat());
         assert_eq!(table(&rows[..1]), "");
+    }
+
+    #[test]
+    fn three_layouts_have_a_name() {
+        assert_eq!(
+            [(2, 0), (5, 3), (6, 4)].map(|(n, c)| layout(n, c)),
+            ["stereo", "5 channels (3/2)", "5.1"]
+        );
+        assert_eq!(
+            [(2, 0xf8), (2, 1), (1, 0)].map(|(n, c)| layout(n, c)),
+            ["stereo", "2 channels", "1 channel"]
+        );
     }
 
     #[test]

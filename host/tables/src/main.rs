@@ -110,7 +110,7 @@ fn each_sector(mode: Mode, format: u32, map: &Map) -> io::Result<Answer> {
     let image = map.bytes();
     let at_step = |done, all| map.forget_before(image.len() / all * done);
     let sectors = Sectors { format, image, at_step: &at_step };
-    let mut report = Report::new(mode == Mode::Fingerprints);
+    let mut report = Report::to_standard_output();
     let answer = match mode {
         Mode::Audit => match sectors.audit(&mut report)? {
             Ok(audited) if audited.unsound > 0 => Answer::Unsound,

@@ -84,8 +84,8 @@ impl Map {
 
     /// The bytes of the file. One that cannot be read ends the program: see [`report_faults`].
     pub fn bytes(&self) -> &[u8] {
-        // SAFETY: so many bytes are mapped from there on, for reading, until this is dropped. If
-        // another process writes to the file, a byte may change; the library takes any bytes.
+        // SAFETY: so many bytes are mapped from there on, for reading, until this is dropped. That
+        // no other program writes to the file meanwhile is assumed.
         unsafe { slice::from_raw_parts(self.start.as_ptr(), self.len) }
     }
 

@@ -1,7 +1,10 @@
 //! Lines on standard output, and how far the work is on standard error.
 
 use std::fmt::Arguments;
-use std::io::{self, BufWriter, IsTerminal, Stderr, StdoutLock, Write};
+use std::fs::File;
+use std::io::{self, BufWriter, IsTerminal, Stderr, Stdout, StdoutLock, Write};
+use std::os::fd::AsFd;
+use std::os::unix::fs::FileTypeExt;
 use std::time::{Duration, Instant};
 
 /// The least time between two updates.
@@ -18,34 +21,41 @@ pub struct Report<W, E: Write> {
 }
 
 impl Report<BufWriter<StdoutLock<'static>>, Stderr> {
-    /// Lines on standard output. The percentage is on standard error if that is a terminal; where
-    /// many lines fill the same terminal there is none.
-    pub fn new(many: bool) -> Self {
+    /// Lines on standard output. The percentage is on standard error if that is a terminal, and none
+    /// where the lines are piped to another program, which may use the same terminal.
+    pub fn to_standard_output() -> Self {
         let (out, error) = (io::stdout(), io::stderr());
-        let shared = out.is_terminal() && error.is_terminal();
-        let seen = error.is_terminal() && !(many && shared);
+        let shared = out.is_terminal();
+        let seen = error.is_terminal() && !is_piped(&out);
         let progress = seen.then(|| Progress { error, next: Instant::now() + PAUSE, shown: false });
         Report { out: BufWriter::with_capacity(1 << 16, out.lock()), progress, shared }
     }
 }
 
+/// Whether standard output goes to another program.
+fn is_piped(out: &Stdout) -> bool {
+    let kind = out.as_fd().try_clone_to_owned().map(File::from).and_then(|out| out.metadata());
+    kind.is_ok_and(|kind| kind.file_type().is_fifo() || kind.file_type().is_socket())
+}
+
 impl<W: Write, E: Write> Report<W, E> {
     pub fn line(&mut self, line: Arguments) -> io::Result<()> {
-        let shared = self.progress.as_mut().filter(|_| self.shared);
-        if let Some(progress) = shared {
+        if let Some(progress) = self.progress.as_mut().filter(|_| self.shared) {
             progress.erase();
-            writeln!(self.out, "{line}")?;
-            return self.out.flush();
         }
         writeln!(self.out, "{line}")
     }
 
-    /// So many parts of all are done.
-    pub fn done(&mut self, done: usize, all: usize) {
+    /// So many parts of all are done. On one terminal the lines come first.
+    pub fn done(&mut self, done: usize, all: usize) -> io::Result<()> {
         let progress = self.progress.as_mut();
         if let Some(progress) = progress.filter(|progress| Instant::now() >= progress.next) {
+            if self.shared {
+                self.out.flush()?;
+            }
             progress.show(done as u128 * 100 / all as u128);
         }
+        Ok(())
     }
 
     /// Clears the percentage, and writes what is held back.
@@ -115,9 +125,9 @@ mod tests {
         let progress = Progress { error, next: Instant::now(), shown: false };
         let mut report = Report { out, progress: Some(progress), shared };
         report.line(format_args!("first")).expect("a terminal takes it");
-        report.done(1, 3);
+        report.done(1, 3).expect("a terminal takes it");
         // It is too early for this one.
-        report.done(2, 3);
+        report.done(2, 3).expect("a terminal takes it");
         report.line(format_args!("second")).expect("a terminal takes it");
         report.line(format_args!("third")).expect("a terminal takes it");
         report.end().expect("a terminal takes it");

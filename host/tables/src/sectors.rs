@@ -70,7 +70,7 @@ impl Sectors<'_> {
         let sectors = sector_count(self.format, self.image.len());
         for (done, lsn) in (0..=u32::MAX).take(sectors).enumerate() {
             if done % STEP == 0 {
-                report.done(done, sectors);
+                report.done(done, sectors)?;
                 (self.at_step)(done, sectors);
             }
             visit(report, lsn)?;

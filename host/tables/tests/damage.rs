@@ -102,7 +102,7 @@ fn no_track_is_shown_past_the_play_time() {
 fn an_image_of_a_disc_s_size_needs_no_memory_of_its_size() {
     let scratch = Scratch::sparse("large.iso", &sample::image(), 4_700_000_000);
     let mut limited = Command::new("sh");
-    limited.args(["-c", "ulimit -d 32768; exec \"$0\" \"$1\""]);
+    limited.args(["-c", "ulimit -t 1; ulimit -d 16384; exec \"$0\" \"$1\""]);
     limited.arg(command().get_program()).arg(&*scratch);
     let listed = Ran::from(limited.output().expect("sh runs"));
     let sectors = "Sectors          2294921\n";

@@ -3,7 +3,7 @@
 mod common;
 
 use common::{SECTOR, Scratch, command, ran, run, stored};
-use scarletbook::raw::{DISC_TRACKS, DISC_WORDS, Track, WORK_BYTES};
+use scarletbook::raw::{TRACK_RECORDS, Track, WARNING_WORDS, WORK_BYTES};
 use scarletbook::{Disc, Memory};
 use tables::dump::{dump, dump_in};
 use tables::json::json;
@@ -25,8 +25,8 @@ fn the_dump_is_the_stored_one_in_every_format() {
 #[test]
 fn the_dump_is_the_same_in_lent_memory() {
     let mut work = vec![90; WORK_BYTES];
-    let mut tracks = vec![Track { number: 90, ..Track::default() }; DISC_TRACKS];
-    let mut words = vec![90; DISC_WORDS];
+    let mut tracks = vec![Track { number: 90, ..Track::default() }; TRACK_RECORDS];
+    let mut words = vec![90; WARNING_WORDS];
     for _ in 0..2 {
         let memory = Memory { work: &mut work, tracks: &mut tracks, words: &mut words };
         assert_eq!(dump_in(memory, 0, &image()), DUMP);

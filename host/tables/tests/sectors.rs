@@ -129,9 +129,20 @@ fn progress_is_shown_on_a_terminal_and_cleared() {
     };
     assert!(shown.starts_with('\r') && shown.ends_with(" %\r\u{1b}[K"), "{shown:?}");
     assert!(shown.lines().count() == 1, "{shown:?}");
-    // Where the lines fill the same terminal there is none.
-    let shown = on_terminal(&format!("--fingerprints --format 0 '{}'", many("shown.iso").name()));
-    assert!(!shown.expect("script is there").contains('%'));
+    let shown = on_terminal(&format!("--fingerprints --format 0 '{}'", large.name()));
+    let shown = shown.expect("script is there");
+    assert!(shown.contains(" %\r\u{1b}[K"), "no percentage among the lines");
+    let lines = |line: &str| line.rsplit_once("\u{1b}[K").map_or(line, |(_, line)| line).to_owned();
+    assert!(
+        shown
+            .lines()
+            .map(lines)
+            .enumerate()
+            .all(|(lsn, line)| line.starts_with(&format!("{lsn} ")))
+    );
+    let piped =
+        on_terminal(&format!("--fingerprints --format 0 '{}' | cat >/dev/null", large.name()));
+    assert_eq!(piped.as_deref(), Some(""));
     let some = Scratch::new("terminal.raw", &headers(5, &[2]));
     let shown = on_terminal(&format!("--audit --format 2 '{}'", some.name()));
     assert_eq!(shown.as_deref(), Some("2: unsound header\r\n5 headers, 1 unsound\r\n"));

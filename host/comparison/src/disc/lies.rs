@@ -12,8 +12,8 @@ use generate::layout::DATA;
 use generate::table::{MOST_SECTORS, put};
 use generate::text::any_page_length;
 use scarletbook::raw::{
-    AREA_TEXTS, Area, DISC_TEXTS, DISC_TRACKS, DecodeAnswer, FIRST_TRACKS, MAX_TRACKS, MasterToc,
-    REGIONS, TRACK_TEXTS, TextPlace, Track, WORK_BYTES,
+    AREA_TEXTS, Area, DISC_TEXTS, DecodeAnswer, FIRST_TRACKS, MAX_TRACKS, MasterToc, REGIONS,
+    TRACK_RECORDS, TRACK_TEXTS, TextPlace, Track, WORK_BYTES,
 };
 
 /// The bytes of a table at most.
@@ -60,7 +60,7 @@ impl Lies {
     pub fn record_case(&mut self, rng: &mut Rng, master: MasterToc, area: Area, lent: &Lent) {
         let which = any_which(rng, master, area);
         let work = &lent.work[..any_room(rng, WORK_BYTES).min(lent.work.len())];
-        let tracks = &lent.tracks[..any_room(rng, DISC_TRACKS).min(lent.tracks.len())];
+        let tracks = &lent.tracks[..any_room(rng, TRACK_RECORDS).min(lent.tracks.len())];
         let (refusal, string) = found(work, tracks, &which);
         let text = rust::decode(string, which.charset());
         let page = any_page_length(rng, text.as_ref().map_or(2, String::len));
@@ -95,7 +95,7 @@ fn disc_texts(work: &[u8]) -> &[u8] {
 
 /// By the document: the refusal, 2 or 8, or the bytes of the text's string.
 fn found<'a>(work: &'a [u8], tracks: &[Track], which: &Which) -> (u8, &'a [u8]) {
-    let listed = !matches!(which, Which::Track(..)) || tracks.len() >= DISC_TRACKS;
+    let listed = !matches!(which, Which::Track(..)) || tracks.len() >= TRACK_RECORDS;
     if work.len() < WORK_BYTES || !listed {
         return (2, &[]);
     }
@@ -194,9 +194,9 @@ fn count(kind: &mut Kind, work: &[u8], tracks: &[Track], which: &Which, found: (
     let present = refusal == 0 && !found.1.is_empty();
     kind.class_if("544,767 bytes", refusal == 2 && work.len() == WORK_BYTES - 1);
     let list = refusal == 2 && work.len() >= WORK_BYTES;
-    kind.class_if("509 records", list && tracks.len() == DISC_TRACKS - 1);
+    kind.class_if("509 records", list && tracks.len() == TRACK_RECORDS - 1);
     kind.class_if("longer work", present && work.len() > WORK_BYTES);
-    kind.class_if("longer list", present && tracks.len() > DISC_TRACKS);
+    kind.class_if("longer list", present && tracks.len() > TRACK_RECORDS);
     let mapped = (3..=6).contains(&(which.charset() % 8));
     kind.class_if("8 before 9", refusal == 8 && mapped);
     match which {
@@ -208,7 +208,7 @@ fn count(kind: &mut Kind, work: &[u8], tracks: &[Track], which: &Which, found: (
         }
         Which::Track(area, number, item) => {
             count_track(kind, area, *number, *item, refusal);
-            let whole = tracks.len() >= DISC_TRACKS;
+            let whole = tracks.len() >= TRACK_RECORDS;
             let place = whole.then(|| track_place(area, tracks, *number, *item)).flatten();
             count_area(kind, work, area, place, found);
         }

@@ -6,7 +6,7 @@ use crate::tables::write;
 use generate::Rng;
 use generate::disc::Disc;
 use scarletbook::raw::{
-    DISC_TRACKS, DISC_WORDS, DiscAnswer, FIRST_TRACKS, REGIONS, Track, WORK_BYTES, read_disc,
+    DiscAnswer, FIRST_TRACKS, REGIONS, TRACK_RECORDS, Track, WARNING_WORDS, WORK_BYTES, read_disc,
 };
 
 /// The most that is lent beyond what must be.
@@ -30,7 +30,7 @@ pub struct Room {
 }
 
 impl Room {
-    pub const EXACT: Room = Room { work: WORK_BYTES, tracks: DISC_TRACKS, words: DISC_WORDS };
+    pub const EXACT: Room = Room { work: WORK_BYTES, tracks: TRACK_RECORDS, words: WARNING_WORDS };
 
     pub fn is_short(self) -> bool {
         let Room { work, tracks, words } = Room::EXACT;
@@ -84,8 +84,8 @@ impl Memory {
     pub fn new(salt: usize) -> Self {
         let before = Lent {
             work: Guarded::bytes(salt, WORK_BYTES + more()),
-            tracks: Guarded::tracks(salt, DISC_TRACKS + more()),
-            words: Guarded::words(salt, DISC_WORDS + more()),
+            tracks: Guarded::tracks(salt, TRACK_RECORDS + more()),
+            words: Guarded::words(salt, WARNING_WORDS + more()),
         };
         Memory { ours: before.clone(), theirs: before.clone(), before }
     }

@@ -11,7 +11,7 @@ use generate::text::any_page_length;
 use oracle::error::Slot;
 use oracle::toc::{AreaTextItem, DiscTextItem, TrackTextItem};
 use scarletbook::raw::{
-    Area, DISC_TRACKS, DecodeAnswer, MasterToc, Track, WORK_BYTES, decode_disc_area_text,
+    Area, DecodeAnswer, MasterToc, TRACK_RECORDS, Track, WORK_BYTES, decode_disc_area_text,
     decode_disc_text, decode_disc_track_text,
 };
 
@@ -73,7 +73,7 @@ impl Texts {
 
     /// Every text of a disc, accepted or silent, from the memory that its reading left.
     pub fn cases(&mut self, rng: &mut Rng, answer: &Answer, lent: &Lent) {
-        let lent = (&lent.work[..WORK_BYTES], &lent.tracks[..DISC_TRACKS]);
+        let lent = (&lent.work[..WORK_BYTES], &lent.tracks[..TRACK_RECORDS]);
         for (item, &name) in (0..).zip(DiscTextItem::ALL) {
             let which = Which::Disc(answer.master, item);
             let text = answer.text.get(name);
