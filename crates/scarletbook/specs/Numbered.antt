@@ -43,7 +43,7 @@ leaf32 n = 100000000 + n
 unfoldable pub leaf64 : ℕ → ℕ
 leaf64 n = 1000000000000000000 + n
 
--- a record's first number at most: every number of it is one of a byte
+-- the last number that a part begins with: the numbers behind it are numbers of a byte too
 abbrev pub maxNumber : ℕ
 maxNumber = 200
 

@@ -1,5 +1,5 @@
-// Samples of the records that cross to C and Rust, by which their declarations are held to the library: each field has a value of its own.
-// A declaration is right if it reads every sample as it is, and if every sample that it makes is taken for one.
+// Samples of the records that cross to C and Rust, by which their declarations are held to the library: each field has a value of its own,
+// by its place and its width. A declaration that reads a sample as it is, and whose own is taken for one, has the library's layout.
 ghost use mathlib.Core.Path.{_≡_};
 ghost use Rattle.scarletbook.specs.Answers.{flagOf};
 ghost use Rattle.scarletbook.specs.Numbered.{areaFrom, areaPointerFrom, chainFrom, dateFrom, fixedTextFrom, genreFrom, languageCodeFrom, localeFrom, sampleAuditAnswer, sampleCapAnswer, sampleComparison, sampleDecodeAnswer, sampleDetectAnswer, sampleDiscAnswer, sampleDrawAnswer, sampleFingerprintAnswer, sampleMasterToc, sampleTableAnswer, sampleTableHead, sampleTrack, tableOriginFrom, textPlaceFrom, timecodeFrom, trackTimesFrom, versionFrom};
@@ -529,7 +529,7 @@ pub extern "C" fn scarletbook_is_sample_master_toc(value: MasterToc) -> u8
     flag(same_master_toc(value, scarletbook_sample_master_toc()))
 }
 
-// The answer of a disc reading, every field of another value.
+// The answer of a disc reading, each record in it numbered by itself: from 1 on, the second area from 101 on.
 #[no_mangle]
 pub extern "C" fn scarletbook_sample_disc_answer() -> DiscAnswer
     ensures { λ r. ⌜ r ≡ sampleDiscAnswer ⌝ }

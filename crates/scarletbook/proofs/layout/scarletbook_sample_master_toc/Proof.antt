@@ -48,23 +48,27 @@ sixteen-texts-from-requires c κs = search needs
 
 returns : tie.Need-returns
 unfolding sampleMasterToc
-returns c =
-    rw (
-      c .before .before .before .before .before .before .before .before .before .before .before .before .before .version-from .ensures,
-      c .before .before .before .before .before .before .before .before .before .before .before .before .leaf16 .ensures,
-      c .before .before .before .before .before .before .before .before .before .before .before .leaf162 .ensures,
-      c .before .before .before .before .before .before .before .before .before .before .fixed-text-from .ensures,
-      c .before .before .before .before .before .before .before .before .before .fixed-text-from2 .ensures,
-      c .before .before .before .before .before .before .before .before .four-genres-from .ensures,
-      c .before .before .before .before .before .before .before .area-pointer-from .ensures,
-      c .before .before .before .before .before .before .area-pointer-from2 .ensures,
-      c .before .before .before .before .before .fixed-text-from3 .ensures,
-      c .before .before .before .before .fixed-text-from4 .ensures,
-      c .before .before .before .four-genres-from2 .ensures,
-      c .before .before .date-from .ensures,
-      c .before .eight-locales-from .ensures,
-      c .sixteen-texts-from .ensures,
-    )
+returns c = λ i. record {
+  version = c .before .before .before .before .before .before .before .before .before .before .before .before .before .version-from .ensures i;
+  «album_set_size» = c .before .before .before .before .before .before .before .before .before .before .before .before .leaf16 .ensures i;
+  «album_sequence_number» = c .before .before .before .before .before .before .before .before .before .before .before .leaf162 .ensures i;
+  «album_catalog_number» = c .before .before .before .before .before .before .before .before .before .before .fixed-text-from .ensures i;
+  «album_catalog_number_stored» = c .before .before .before .before .before .before .before .before .before .fixed-text-from2 .ensures i;
+  «album_genres» = c .before .before .before .before .before .before .before .before .four-genres-from .ensures i;
+  «two_channel» = c .before .before .before .before .before .before .before .area-pointer-from .ensures i;
+  multichannel = c .before .before .before .before .before .before .area-pointer-from2 .ensures i;
+  «disc_flags» = 53;
+  «disc_catalog_number» = c .before .before .before .before .before .fixed-text-from3 .ensures i;
+  «disc_catalog_number_stored» = c .before .before .before .before .fixed-text-from4 .ensures i;
+  «disc_genres» = c .before .before .before .four-genres-from2 .ensures i;
+  date = c .before .before .date-from .ensures i;
+  «text_channel_count» = 99;
+  «locale_count» = 100;
+  locales = c .before .eight-locales-from .ensures i;
+  «text_charset» = 149;
+  text = c .sixteen-texts-from .ensures i;
+  manufacturer = 166;
+}
 
 pub scarletbook-sample-master-toc-spec : {M : Type 1} → statement M
 scarletbook-sample-master-toc-spec =

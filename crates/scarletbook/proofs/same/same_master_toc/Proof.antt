@@ -1,4 +1,6 @@
 -- `scarletbook::same::same_master_toc` meets its contract. Assumes nothing.
+use mathlib.Core.Bool.{_&&_}
+use lib.Dec.{eqb}
 use borrow.Author.Needs.{needs}
 use Rattle.scarletbook.specs.Same.{sameMasterToc}
 use Rattle.scarletbook.proofs.same.same_master_toc.Statement.{statement}
@@ -42,21 +44,26 @@ same-sixteen-texts-requires c κs = search needs
 
 returns : tie.Need-returns
 unfolding sameMasterToc
-returns c =
-    rw (
-      c .before .before .before .before .before .before .before .before .before .before .before .before .before .before .before .before .before .before .before .before .before .before .before .before .before .same-version .ensures,
-      c .before .before .before .before .before .before .before .before .before .before .before .before .before .before .before .before .before .before .before .before .same-fixed-text .ensures,
-      c .before .before .before .before .before .before .before .before .before .before .before .before .before .before .before .before .before .before .before .same-fixed-text2 .ensures,
-      c .before .before .before .before .before .before .before .before .before .before .before .before .before .before .before .before .before .before .same-four-genres .ensures,
-      c .before .before .before .before .before .before .before .before .before .before .before .before .before .before .before .before .before .same-area-pointer .ensures,
-      c .before .before .before .before .before .before .before .before .before .before .before .before .before .before .before .before .same-area-pointer2 .ensures,
-      c .before .before .before .before .before .before .before .before .before .before .before .before .before .same-fixed-text3 .ensures,
-      c .before .before .before .before .before .before .before .before .before .before .before .before .same-fixed-text4 .ensures,
-      c .before .before .before .before .before .before .before .before .before .before .before .same-four-genres2 .ensures,
-      c .before .before .before .before .before .before .before .before .before .before .same-date .ensures,
-      c .before .before .before .before .before .same-eight-locales .ensures,
-      c .before .before .same-sixteen-texts .ensures,
-    )
+returns c = let x = c .before .before .before .before .before .before .before .before .before .before .before .before .before .before .before .before .before .before .before .before .before .before .before .before .before .before .before .before .before .before .before .before .before .before .args in λ i.
+    c .before .before .before .before .before .before .before .before .before .before .before .before .before .before .before .before .before .before .before .before .before .before .before .before .before .same-version .ensures i
+    && eqb (x .a .«album_set_size») (x .b .«album_set_size»)
+    && eqb (x .a .«album_sequence_number») (x .b .«album_sequence_number»)
+    && c .before .before .before .before .before .before .before .before .before .before .before .before .before .before .before .before .before .before .before .before .same-fixed-text .ensures i
+    && c .before .before .before .before .before .before .before .before .before .before .before .before .before .before .before .before .before .before .before .same-fixed-text2 .ensures i
+    && c .before .before .before .before .before .before .before .before .before .before .before .before .before .before .before .before .before .before .same-four-genres .ensures i
+    && c .before .before .before .before .before .before .before .before .before .before .before .before .before .before .before .before .before .same-area-pointer .ensures i
+    && c .before .before .before .before .before .before .before .before .before .before .before .before .before .before .before .before .same-area-pointer2 .ensures i
+    && eqb (x .a .«disc_flags») (x .b .«disc_flags»)
+    && c .before .before .before .before .before .before .before .before .before .before .before .before .before .same-fixed-text3 .ensures i
+    && c .before .before .before .before .before .before .before .before .before .before .before .before .same-fixed-text4 .ensures i
+    && c .before .before .before .before .before .before .before .before .before .before .before .same-four-genres2 .ensures i
+    && c .before .before .before .before .before .before .before .before .before .before .same-date .ensures i
+    && eqb (x .a .«text_channel_count») (x .b .«text_channel_count»)
+    && eqb (x .a .«locale_count») (x .b .«locale_count»)
+    && c .before .before .before .before .before .same-eight-locales .ensures i
+    && eqb (x .a .«text_charset») (x .b .«text_charset»)
+    && c .before .before .same-sixteen-texts .ensures i
+    && eqb (x .a .manufacturer) (x .b .manufacturer)
 
 pub same-master-toc-spec : {M : Type 1} → statement M
 same-master-toc-spec =

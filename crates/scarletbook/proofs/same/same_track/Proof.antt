@@ -1,4 +1,6 @@
 -- `scarletbook::same::same_track` meets its contract. Assumes nothing.
+use mathlib.Core.Bool.{_&&_}
+use lib.Dec.{eqb}
 use borrow.Author.Needs.{needs}
 use Rattle.scarletbook.specs.Same.{sameTrack}
 use Rattle.scarletbook.proofs.same.same_track.Statement.{statement}
@@ -18,13 +20,18 @@ same-fourteen-texts-requires c κs = search needs
 
 returns : tie.Need-returns
 unfolding sameTrack
-returns c =
-    rw (
-      c .before .before .before .before .before .before .before .before .before .before .before .same-track-times .ensures,
-      c .before .before .before .before .same-fixed-text .ensures,
-      c .before .same-genre .ensures,
-      c .same-fourteen-texts .ensures,
-    )
+returns c = let x = c .before .before .before .before .before .before .before .before .before .before .before .before .before .before .before .before .before .before .before .before .args in λ i.
+    eqb (x .a .number) (x .b .number)
+    && eqb (x .a .«start_lsn» .0) (x .b .«start_lsn» .0)
+    && eqb (x .a .«length_sectors») (x .b .«length_sectors»)
+    && c .before .before .before .before .before .before .before .before .before .before .before .same-track-times .ensures i
+    && eqb (x .a .«start_flags») (x .b .«start_flags»)
+    && eqb (x .a .«duration_flags») (x .b .«duration_flags»)
+    && eqb (x .a .«has_isrc») (x .b .«has_isrc»)
+    && c .before .before .before .before .same-fixed-text .ensures i
+    && eqb (x .a .«has_genre») (x .b .«has_genre»)
+    && c .before .same-genre .ensures i
+    && c .same-fourteen-texts .ensures i
 
 pub same-track-spec : {M : Type 1} → statement M
 same-track-spec =
