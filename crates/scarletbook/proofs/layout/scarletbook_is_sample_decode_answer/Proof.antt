@@ -1,5 +1,8 @@
 -- `scarletbook::layout::scarletbook_is_sample_decode_answer` meets its contract. Assumes nothing.
+use mathlib.Core.Path.{ap, _∙_}
 use borrow.Author.Needs.{needs}
+use Rattle.scarletbook.specs.Answers.{flagOf}
+use Rattle.scarletbook.specs.Same.{sameDecodeAnswer}
 use Rattle.scarletbook.proofs.layout.scarletbook_is_sample_decode_answer.Statement.{statement}
 use Rattle.scarletbook.proofs.layout.scarletbook_is_sample_decode_answer.Tie as tie
 
@@ -14,11 +17,8 @@ flag-requires c κs = search needs
 
 returns : tie.Need-returns
 returns c =
-    rw (
-      c .flag .ensures,
-      c .before .same-decode-answer .ensures,
-      c .before .before .scarletbook-sample-decode-answer .ensures,
-    )
+    c .flag .ensures
+    ∙ ap flagOf (c .before .same-decode-answer .ensures ∙ ap (sameDecodeAnswer _) (c .before .before .scarletbook-sample-decode-answer .ensures))
 
 pub scarletbook-is-sample-decode-answer-spec : {M : Type 1} → statement M
 scarletbook-is-sample-decode-answer-spec =

@@ -1,5 +1,8 @@
 -- `scarletbook::layout::scarletbook_is_sample_fingerprint_answer` meets its contract. Assumes nothing.
+use mathlib.Core.Path.{ap, _∙_}
 use borrow.Author.Needs.{needs}
+use Rattle.scarletbook.specs.Answers.{flagOf}
+use Rattle.scarletbook.specs.Same.{sameFingerprintAnswer}
 use Rattle.scarletbook.proofs.layout.scarletbook_is_sample_fingerprint_answer.Statement.{statement}
 use Rattle.scarletbook.proofs.layout.scarletbook_is_sample_fingerprint_answer.Tie as tie
 
@@ -15,11 +18,8 @@ flag-requires c κs = search needs
 
 returns : tie.Need-returns
 returns c =
-    rw (
-      c .flag .ensures,
-      c .before .same-fingerprint-answer .ensures,
-      c .before .before .scarletbook-sample-fingerprint-answer .ensures,
-    )
+    c .flag .ensures
+    ∙ ap flagOf (c .before .same-fingerprint-answer .ensures ∙ ap (sameFingerprintAnswer _) (c .before .before .scarletbook-sample-fingerprint-answer .ensures))
 
 pub scarletbook-is-sample-fingerprint-answer-spec : {M : Type 1} → statement M
 scarletbook-is-sample-fingerprint-answer-spec =

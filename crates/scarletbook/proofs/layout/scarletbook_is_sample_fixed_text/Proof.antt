@@ -1,5 +1,8 @@
 -- `scarletbook::layout::scarletbook_is_sample_fixed_text` meets its contract. Assumes nothing.
+use mathlib.Core.Path.{ap, _∙_}
 use borrow.Author.Needs.{needs}
+use Rattle.scarletbook.specs.Answers.{flagOf}
+use Rattle.scarletbook.specs.Same.{sameFixedText}
 use Rattle.scarletbook.proofs.layout.scarletbook_is_sample_fixed_text.Statement.{statement}
 use Rattle.scarletbook.proofs.layout.scarletbook_is_sample_fixed_text.Tie as tie
 
@@ -13,7 +16,9 @@ flag-requires : tie.Need-flag-requires
 flag-requires c κs = search needs
 
 returns : tie.Need-returns
-returns c = rw (c .flag .ensures, c .before .same-fixed-text .ensures, c .before .before .scarletbook-sample-fixed-text .ensures)
+returns c =
+    c .flag .ensures
+    ∙ ap flagOf (c .before .same-fixed-text .ensures ∙ ap (sameFixedText _) (c .before .before .scarletbook-sample-fixed-text .ensures))
 
 pub scarletbook-is-sample-fixed-text-spec : {M : Type 1} → statement M
 scarletbook-is-sample-fixed-text-spec =

@@ -1,5 +1,8 @@
 -- `scarletbook::layout::scarletbook_is_sample_language_code` meets its contract. Assumes nothing.
+use mathlib.Core.Path.{ap, _∙_}
 use borrow.Author.Needs.{needs}
+use Rattle.scarletbook.specs.Answers.{flagOf}
+use Rattle.scarletbook.specs.Same.{sameLanguageCode}
 use Rattle.scarletbook.proofs.layout.scarletbook_is_sample_language_code.Statement.{statement}
 use Rattle.scarletbook.proofs.layout.scarletbook_is_sample_language_code.Tie as tie
 
@@ -14,11 +17,8 @@ flag-requires c κs = search needs
 
 returns : tie.Need-returns
 returns c =
-    rw (
-      c .flag .ensures,
-      c .before .same-language-code .ensures,
-      c .before .before .scarletbook-sample-language-code .ensures,
-    )
+    c .flag .ensures
+    ∙ ap flagOf (c .before .same-language-code .ensures ∙ ap (sameLanguageCode _) (c .before .before .scarletbook-sample-language-code .ensures))
 
 pub scarletbook-is-sample-language-code-spec : {M : Type 1} → statement M
 scarletbook-is-sample-language-code-spec =

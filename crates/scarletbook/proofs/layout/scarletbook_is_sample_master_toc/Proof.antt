@@ -1,5 +1,8 @@
 -- `scarletbook::layout::scarletbook_is_sample_master_toc` meets its contract. Assumes nothing.
+use mathlib.Core.Path.{ap, _∙_}
 use borrow.Author.Needs.{needs}
+use Rattle.scarletbook.specs.Answers.{flagOf}
+use Rattle.scarletbook.specs.Same.{sameMasterToc}
 use Rattle.scarletbook.proofs.layout.scarletbook_is_sample_master_toc.Statement.{statement}
 use Rattle.scarletbook.proofs.layout.scarletbook_is_sample_master_toc.Tie as tie
 
@@ -13,7 +16,9 @@ flag-requires : tie.Need-flag-requires
 flag-requires c κs = search needs
 
 returns : tie.Need-returns
-returns c = rw (c .flag .ensures, c .before .same-master-toc .ensures, c .before .before .scarletbook-sample-master-toc .ensures)
+returns c =
+    c .flag .ensures
+    ∙ ap flagOf (c .before .same-master-toc .ensures ∙ ap (sameMasterToc _) (c .before .before .scarletbook-sample-master-toc .ensures))
 
 pub scarletbook-is-sample-master-toc-spec : {M : Type 1} → statement M
 scarletbook-is-sample-master-toc-spec =

@@ -1,5 +1,8 @@
 -- `scarletbook::layout::scarletbook_is_sample_table_origin` meets its contract. Assumes nothing.
+use mathlib.Core.Path.{ap, _∙_}
 use borrow.Author.Needs.{needs}
+use Rattle.scarletbook.specs.Answers.{flagOf}
+use Rattle.scarletbook.specs.Same.{sameTableOrigin}
 use Rattle.scarletbook.proofs.layout.scarletbook_is_sample_table_origin.Statement.{statement}
 use Rattle.scarletbook.proofs.layout.scarletbook_is_sample_table_origin.Tie as tie
 
@@ -14,11 +17,8 @@ flag-requires c κs = search needs
 
 returns : tie.Need-returns
 returns c =
-    rw (
-      c .flag .ensures,
-      c .before .same-table-origin .ensures,
-      c .before .before .scarletbook-sample-table-origin .ensures,
-    )
+    c .flag .ensures
+    ∙ ap flagOf (c .before .same-table-origin .ensures ∙ ap (sameTableOrigin _) (c .before .before .scarletbook-sample-table-origin .ensures))
 
 pub scarletbook-is-sample-table-origin-spec : {M : Type 1} → statement M
 scarletbook-is-sample-table-origin-spec =

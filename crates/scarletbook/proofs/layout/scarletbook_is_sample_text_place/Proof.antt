@@ -1,5 +1,8 @@
 -- `scarletbook::layout::scarletbook_is_sample_text_place` meets its contract. Assumes nothing.
+use mathlib.Core.Path.{ap, _∙_}
 use borrow.Author.Needs.{needs}
+use Rattle.scarletbook.specs.Answers.{flagOf}
+use Rattle.scarletbook.specs.Same.{sameTextPlace}
 use Rattle.scarletbook.proofs.layout.scarletbook_is_sample_text_place.Statement.{statement}
 use Rattle.scarletbook.proofs.layout.scarletbook_is_sample_text_place.Tie as tie
 
@@ -13,7 +16,9 @@ flag-requires : tie.Need-flag-requires
 flag-requires c κs = search needs
 
 returns : tie.Need-returns
-returns c = rw (c .flag .ensures, c .before .same-text-place .ensures, c .before .before .scarletbook-sample-text-place .ensures)
+returns c =
+    c .flag .ensures
+    ∙ ap flagOf (c .before .same-text-place .ensures ∙ ap (sameTextPlace _) (c .before .before .scarletbook-sample-text-place .ensures))
 
 pub scarletbook-is-sample-text-place-spec : {M : Type 1} → statement M
 scarletbook-is-sample-text-place-spec =

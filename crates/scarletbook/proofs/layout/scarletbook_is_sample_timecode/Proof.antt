@@ -1,5 +1,8 @@
 -- `scarletbook::layout::scarletbook_is_sample_timecode` meets its contract. Assumes nothing.
+use mathlib.Core.Path.{ap, _∙_}
 use borrow.Author.Needs.{needs}
+use Rattle.scarletbook.specs.Answers.{flagOf}
+use Rattle.scarletbook.specs.Same.{sameTimecode}
 use Rattle.scarletbook.proofs.layout.scarletbook_is_sample_timecode.Statement.{statement}
 use Rattle.scarletbook.proofs.layout.scarletbook_is_sample_timecode.Tie as tie
 
@@ -13,7 +16,9 @@ flag-requires : tie.Need-flag-requires
 flag-requires c κs = search needs
 
 returns : tie.Need-returns
-returns c = rw (c .flag .ensures, c .before .same-timecode .ensures, c .before .before .scarletbook-sample-timecode .ensures)
+returns c =
+    c .flag .ensures
+    ∙ ap flagOf (c .before .same-timecode .ensures ∙ ap (sameTimecode _) (c .before .before .scarletbook-sample-timecode .ensures))
 
 pub scarletbook-is-sample-timecode-spec : {M : Type 1} → statement M
 scarletbook-is-sample-timecode-spec =

@@ -1,5 +1,8 @@
 -- `scarletbook::layout::scarletbook_is_sample_track_times` meets its contract. Assumes nothing.
+use mathlib.Core.Path.{ap, _∙_}
 use borrow.Author.Needs.{needs}
+use Rattle.scarletbook.specs.Answers.{flagOf}
+use Rattle.scarletbook.specs.Same.{sameTrackTimes}
 use Rattle.scarletbook.proofs.layout.scarletbook_is_sample_track_times.Statement.{statement}
 use Rattle.scarletbook.proofs.layout.scarletbook_is_sample_track_times.Tie as tie
 
@@ -14,11 +17,8 @@ flag-requires c κs = search needs
 
 returns : tie.Need-returns
 returns c =
-    rw (
-      c .flag .ensures,
-      c .before .same-track-times .ensures,
-      c .before .before .scarletbook-sample-track-times .ensures,
-    )
+    c .flag .ensures
+    ∙ ap flagOf (c .before .same-track-times .ensures ∙ ap (sameTrackTimes _) (c .before .before .scarletbook-sample-track-times .ensures))
 
 pub scarletbook-is-sample-track-times-spec : {M : Type 1} → statement M
 scarletbook-is-sample-track-times-spec =

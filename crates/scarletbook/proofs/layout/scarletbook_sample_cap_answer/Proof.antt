@@ -12,7 +12,11 @@ leaf32-requires-2 c κs = search needs
 
 returns : tie.Need-returns
 unfolding sampleCapAnswer
-returns c = rw (c .before .leaf32 .ensures, c .leaf322 .ensures)
+returns c = λ i. record {
+  «start_frame» = record { 0 = c .before .leaf32 .ensures i };
+  «duration_frames» = record { 0 = c .leaf322 .ensures i };
+  «past_playtime» = 3;
+}
 
 pub scarletbook-sample-cap-answer-spec : {M : Type 1} → statement M
 scarletbook-sample-cap-answer-spec = tie.close (tie.spec leaf32-requires leaf32-requires-2 returns)

@@ -9,7 +9,7 @@ leaf-size-requires c κs = search needs
 
 returns : tie.Need-returns
 unfolding sampleDecodeAnswer
-returns c = rw (c .leaf-size .ensures)
+returns c = λ i. record { refusal = 1; len = c .leaf-size .ensures i }
 
 pub scarletbook-sample-decode-answer-spec : {M : Type 1} → statement M
 scarletbook-sample-decode-answer-spec = tie.close (tie.spec leaf-size-requires returns)

@@ -9,7 +9,7 @@ leaf32-requires c κs = search needs
 
 returns : tie.Need-returns
 unfolding sampleDetectAnswer
-returns c = rw (c .leaf32 .ensures)
+returns c = λ i. record { refusal = 1; «sector_format» = c .leaf32 .ensures i }
 
 pub scarletbook-sample-detect-answer-spec : {M : Type 1} → statement M
 scarletbook-sample-detect-answer-spec = tie.close (tie.spec leaf32-requires returns)

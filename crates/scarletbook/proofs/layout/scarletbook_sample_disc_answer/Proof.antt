@@ -24,15 +24,15 @@ area-from-requires-2 c κs = search needs
 
 returns : tie.Need-returns
 unfolding sampleDiscAnswer
-returns c =
-    rw (
-      c .before .before .before .before .before .leaf-size .ensures,
-      c .before .before .before .before .leaf32 .ensures,
-      c .before .before .before .leaf-size2 .ensures,
-      c .before .before .scarletbook-sample-master-toc .ensures,
-      c .before .area-from .ensures,
-      c .area-from2 .ensures,
-    )
+returns c = λ i. record {
+  refusal = 1;
+  warnings = c .before .before .before .before .before .leaf-size .ensures i;
+  «sector_format» = c .before .before .before .before .leaf32 .ensures i;
+  sectors = c .before .before .before .leaf-size2 .ensures i;
+  master = c .before .before .scarletbook-sample-master-toc .ensures i;
+  «two_channel» = c .before .area-from .ensures i;
+  multichannel = c .area-from2 .ensures i;
+}
 
 pub scarletbook-sample-disc-answer-spec : {M : Type 1} → statement M
 scarletbook-sample-disc-answer-spec =

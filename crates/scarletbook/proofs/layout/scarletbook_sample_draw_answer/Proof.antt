@@ -18,13 +18,14 @@ leaf-size-requires-4 c κs = search needs
 
 returns : tie.Need-returns
 unfolding sampleDrawAnswer
-returns c =
-    rw (
-      c .before .before .before .leaf-size .ensures,
-      c .before .before .leaf-size2 .ensures,
-      c .before .leaf-size3 .ensures,
-      c .leaf-size4 .ensures,
-    )
+returns c = λ i. record {
+  found = 1;
+  kind = 2;
+  place = c .before .before .before .leaf-size .ensures i;
+  len = c .before .before .leaf-size2 .ensures i;
+  next = c .before .leaf-size3 .ensures i;
+  left = c .leaf-size4 .ensures i;
+}
 
 pub scarletbook-sample-draw-answer-spec : {M : Type 1} → statement M
 scarletbook-sample-draw-answer-spec =

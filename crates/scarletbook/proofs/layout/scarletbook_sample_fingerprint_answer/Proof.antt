@@ -9,7 +9,7 @@ leaf64-requires c κs = search needs
 
 returns : tie.Need-returns
 unfolding sampleFingerprintAnswer
-returns c = rw (c .leaf64 .ensures)
+returns c = λ i. record { refusal = 1; digest = c .leaf64 .ensures i }
 
 pub scarletbook-sample-fingerprint-answer-spec : {M : Type 1} → statement M
 scarletbook-sample-fingerprint-answer-spec = tie.close (tie.spec leaf64-requires returns)

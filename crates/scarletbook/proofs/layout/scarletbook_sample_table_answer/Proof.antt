@@ -12,7 +12,7 @@ area-from-requires c κs = search needs
 
 returns : tie.Need-returns
 unfolding sampleTableAnswer
-returns c = rw (c .before .leaf-size .ensures, c .area-from .ensures)
+returns c = λ i. record { refusal = 1; warnings = c .before .leaf-size .ensures i; area = c .area-from .ensures i }
 
 pub scarletbook-sample-table-answer-spec : {M : Type 1} → statement M
 scarletbook-sample-table-answer-spec =

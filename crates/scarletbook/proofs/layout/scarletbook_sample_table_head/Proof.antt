@@ -12,7 +12,7 @@ chain-from-requires c κs = search needs
 
 returns : tie.Need-returns
 unfolding sampleTableHead
-returns c = rw (c .before .area-from .ensures, c .chain-from .ensures)
+returns c = λ i. record { skip = 1; area = c .before .area-from .ensures i; chain = c .chain-from .ensures i }
 
 pub scarletbook-sample-table-head-spec : {M : Type 1} → statement M
 scarletbook-sample-table-head-spec =

@@ -24,15 +24,19 @@ fourteen-texts-from-requires c κs = search needs
 
 returns : tie.Need-returns
 unfolding sampleTrack
-returns c =
-    rw (
-      c .before .before .before .before .before .leaf32 .ensures,
-      c .before .before .before .before .leaf322 .ensures,
-      c .before .before .before .track-times-from .ensures,
-      c .before .before .fixed-text-from .ensures,
-      c .before .genre-from .ensures,
-      c .fourteen-texts-from .ensures,
-    )
+returns c = λ i. record {
+  number = 1;
+  «start_lsn» = record { 0 = c .before .before .before .before .before .leaf32 .ensures i };
+  «length_sectors» = c .before .before .before .before .leaf322 .ensures i;
+  times = c .before .before .before .track-times-from .ensures i;
+  «start_flags» = 6;
+  «duration_flags» = 7;
+  «has_isrc» = 8;
+  isrc = c .before .before .fixed-text-from .ensures i;
+  «has_genre» = 26;
+  genre = c .before .genre-from .ensures i;
+  text = c .fourteen-texts-from .ensures i;
+}
 
 pub scarletbook-sample-track-spec : {M : Type 1} → statement M
 scarletbook-sample-track-spec =

@@ -10,7 +10,7 @@ add-table-origin-from : tie.Need-add-table-origin-from
 add-table-origin-from c = omega arith
 
 table-origin-from-requires : tie.Need-table-origin-from-requires
-table-origin-from-requires c κs = search needs
+table-origin-from-requires c κs = omega arith
 
 add-t4 : tie.Need-add-t4
 add-t4 c = omega arith
@@ -19,7 +19,7 @@ add-version-from : tie.Need-add-version-from
 add-version-from c = omega arith
 
 version-from-requires : tie.Need-version-from-requires
-version-from-requires c κs = search needs
+version-from-requires c κs = omega arith
 
 add-leaf32 : tie.Need-add-leaf32
 add-leaf32 c = omega arith
@@ -52,7 +52,7 @@ add-timecode-from : tie.Need-add-timecode-from
 add-timecode-from c = omega arith
 
 timecode-from-requires : tie.Need-timecode-from-requires
-timecode-from-requires c κs = search needs
+timecode-from-requires c κs = omega arith
 
 add-t18 : tie.Need-add-t18
 add-t18 c = omega arith
@@ -85,7 +85,7 @@ add-ten-locales-from : tie.Need-add-ten-locales-from
 add-ten-locales-from c = omega arith
 
 ten-locales-from-requires : tie.Need-ten-locales-from-requires
-ten-locales-from-requires c κs = search needs
+ten-locales-from-requires c κs = omega arith
 
 add-t31 : tie.Need-add-t31
 add-t31 c = omega arith
@@ -94,7 +94,7 @@ add-four-texts-from : tie.Need-add-four-texts-from
 add-four-texts-from c = omega arith
 
 four-texts-from-requires : tie.Need-four-texts-from-requires
-four-texts-from-requires c κs = search needs
+four-texts-from-requires c κs = omega arith
 
 returns : tie.Need-returns
 unfolding areaFrom

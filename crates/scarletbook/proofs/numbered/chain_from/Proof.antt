@@ -1,4 +1,5 @@
 -- `scarletbook::numbered::chain_from` meets its contract. Assumes nothing.
+use native.Mathlib.Omega.{arith}
 use borrow.Author.Needs.{needs}
 use Rattle.scarletbook.specs.Numbered.{chainFrom}
 use Rattle.scarletbook.proofs.numbered.chain_from.Statement.{statement}
@@ -8,19 +9,19 @@ leaf32-requires : tie.Need-leaf32-requires
 leaf32-requires c κs = search needs
 
 add-leaf32 : tie.Need-add-leaf32
-add-leaf32 c = search needs
+add-leaf32 c = omega arith
 
 leaf32-requires-2 : tie.Need-leaf32-requires-2
 leaf32-requires-2 c κs = search needs
 
 add-leaf32-2 : tie.Need-add-leaf32-2
-add-leaf32-2 c = search needs
+add-leaf32-2 c = omega arith
 
 leaf32-requires-3 : tie.Need-leaf32-requires-3
 leaf32-requires-3 c κs = search needs
 
 add-leaf32-3 : tie.Need-add-leaf32-3
-add-leaf32-3 c = search needs
+add-leaf32-3 c = omega arith
 
 leaf32-requires-4 : tie.Need-leaf32-requires-4
 leaf32-requires-4 c κs = search needs

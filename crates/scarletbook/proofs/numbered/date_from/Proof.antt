@@ -1,4 +1,5 @@
 -- `scarletbook::numbered::date_from` meets its contract. Assumes nothing.
+use native.Mathlib.Omega.{arith}
 use borrow.Author.Needs.{needs}
 use Rattle.scarletbook.specs.Numbered.{dateFrom}
 use Rattle.scarletbook.proofs.numbered.date_from.Statement.{statement}
@@ -8,10 +9,10 @@ leaf16-requires : tie.Need-leaf16-requires
 leaf16-requires c κs = search needs
 
 add-t3 : tie.Need-add-t3
-add-t3 c = search needs
+add-t3 c = omega arith
 
 add-t4 : tie.Need-add-t4
-add-t4 c = search needs
+add-t4 c = omega arith
 
 returns : tie.Need-returns
 unfolding dateFrom

@@ -1,18 +1,18 @@
 -- `scarletbook::numbered::genre_from` meets its contract. Assumes nothing.
 use mathlib.Core.Path.{refl}
-use borrow.Author.Needs.{needs}
+use native.Mathlib.Omega.{arith}
 use Rattle.scarletbook.specs.Numbered.{genreFrom}
 use Rattle.scarletbook.proofs.numbered.genre_from.Statement.{statement}
 use Rattle.scarletbook.proofs.numbered.genre_from.Tie as tie
 
 mul-first : tie.Need-mul-first
-mul-first c = search needs
+mul-first c = omega arith
 
 add-first : tie.Need-add-first
-add-first c = search needs
+add-first c = omega arith
 
 add-t4 : tie.Need-add-t4
-add-t4 c = search needs
+add-t4 c = omega arith
 
 returns : tie.Need-returns
 unfolding genreFrom

@@ -1,12 +1,12 @@
 -- `scarletbook::numbered::leaf64` meets its contract. Assumes nothing.
 use mathlib.Core.Path.{refl}
-use borrow.Author.Needs.{needs}
+use native.Mathlib.Omega.{arith}
 use Rattle.scarletbook.specs.Numbered.{leaf64}
 use Rattle.scarletbook.proofs.numbered.leaf64.Statement.{statement}
 use Rattle.scarletbook.proofs.numbered.leaf64.Tie as tie
 
 add-result : tie.Need-add-result
-add-result c = search needs
+add-result c = omega arith
 
 returns : tie.Need-returns
 unfolding leaf64

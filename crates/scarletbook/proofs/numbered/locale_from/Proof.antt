@@ -1,26 +1,26 @@
 -- `scarletbook::numbered::locale_from` meets its contract. Assumes nothing.
-use borrow.Author.Needs.{needs}
+use native.Mathlib.Omega.{arith}
 use Rattle.scarletbook.specs.Numbered.{localeFrom}
 use Rattle.scarletbook.proofs.numbered.locale_from.Statement.{statement}
 use Rattle.scarletbook.proofs.numbered.locale_from.Tie as tie
 
 mul-first : tie.Need-mul-first
-mul-first c = search needs
+mul-first c = omega arith
 
 add-first : tie.Need-add-first
-add-first c = search needs
+add-first c = omega arith
 
 language-code-from-requires : tie.Need-language-code-from-requires
-language-code-from-requires c κs = search needs
+language-code-from-requires c κs = omega arith
 
 add-t4 : tie.Need-add-t4
-add-t4 c = search needs
+add-t4 c = omega arith
 
 add-t6 : tie.Need-add-t6
-add-t6 c = search needs
+add-t6 c = omega arith
 
 add-t8 : tie.Need-add-t8
-add-t8 c = search needs
+add-t8 c = omega arith
 
 returns : tie.Need-returns
 unfolding localeFrom

@@ -1,4 +1,5 @@
 -- `scarletbook::numbered::track_times_from` meets its contract. Assumes nothing.
+use native.Mathlib.Omega.{arith}
 use borrow.Author.Needs.{needs}
 use Rattle.scarletbook.specs.Numbered.{trackTimesFrom}
 use Rattle.scarletbook.proofs.numbered.track_times_from.Statement.{statement}
@@ -8,7 +9,7 @@ leaf32-requires : tie.Need-leaf32-requires
 leaf32-requires c κs = search needs
 
 add-leaf32 : tie.Need-add-leaf32
-add-leaf32 c = search needs
+add-leaf32 c = omega arith
 
 leaf32-requires-2 : tie.Need-leaf32-requires-2
 leaf32-requires-2 c κs = search needs
