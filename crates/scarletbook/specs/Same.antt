@@ -36,7 +36,7 @@ use Rattle.disc.specs.declared.master.MasterToc.{MasterToc}
 use Rattle.scarletbook.specs.declared.CapAnswer.{CapAnswer}
 use Rattle.scarletbook.specs.declared.DrawAnswer.{DrawAnswer}
 
--- ---- "the same in every field"
+-- ---- "whether it is the same": in every field
 -- whether a test holds at 0, 1, .., as many as there are
 unfoldable pub throughout : ℕ → (ℕ → Bool) → Bool
 throughout zero test = true
