@@ -5,7 +5,7 @@ mod common;
 use common::{Ran, SECTOR, SOUND, Scratch, UNSOUND, command, ran, run, stored};
 use std::fs::File;
 use std::io::{BufRead, BufReader, Read};
-use std::process::{Command, Stdio};
+use std::process::{Command, Output, Stdio};
 use tables::sample;
 
 /// An image of format 2: so many sectors of zeros, each header sound but some.
@@ -112,38 +112,45 @@ fn a_file_that_becomes_shorter_is_an_error() {
     assert_eq!(ended, ran(2, "", &format!("tables: {}: {why}\n", scratch.name())));
 }
 
-/// What the command shows on a terminal. Nothing without the command `script`.
+/// A percentage that is cleared again.
+const CLEARED: &str = " %\r\u{1b}[K";
+
+/// What a line of commands shows on a terminal; nothing without the command `script`.
+fn script(line: &str) -> Option<Output> {
+    Command::new("script").args(["-qec", line, "/dev/null"]).output().ok()
+}
+
+/// What the command shows on a terminal. Nothing where there can be none.
 fn on_terminal(arguments: &str) -> Option<String> {
+    script("true").filter(|output| output.status.success())?;
     let line = format!("'{}' {arguments}", command().get_program().display());
-    let output = Command::new("script").args(["-qec", &line, "/dev/null"]).output().ok()?;
-    Some(String::from_utf8(output.stdout).expect("a terminal gets UTF-8"))
+    Some(String::from_utf8(script(&line)?.stdout).expect("a terminal gets UTF-8"))
 }
 
 #[test]
 fn progress_is_shown_on_a_terminal_and_cleared() {
     let large = Scratch::sparse("progress.iso", &[], 300_000 * SECTOR as u64);
-    let shown = on_terminal(&format!("--fingerprints --format 0 '{}' >/dev/null", large.name()));
-    let Some(shown) = shown else {
-        eprintln!("left out, for want of the command script");
+    let fingerprints = format!("--fingerprints --format 0 '{}'", large.name());
+    let Some(shown) = on_terminal(&format!("{fingerprints} >/dev/null")) else {
+        eprintln!("left out, for want of the command script or of a terminal");
         return;
     };
-    assert!(shown.starts_with('\r') && shown.ends_with(" %\r\u{1b}[K"), "{shown:?}");
+    assert!(shown.starts_with('\r') && shown.ends_with(CLEARED), "{shown:?}");
     assert!(shown.lines().count() == 1, "{shown:?}");
-    let shown = on_terminal(&format!("--fingerprints --format 0 '{}'", large.name()));
-    let shown = shown.expect("script is there");
-    assert!(shown.contains(" %\r\u{1b}[K"), "no percentage among the lines");
-    let lines = |line: &str| line.rsplit_once("\u{1b}[K").map_or(line, |(_, line)| line).to_owned();
-    assert!(
-        shown
-            .lines()
-            .map(lines)
-            .enumerate()
-            .all(|(lsn, line)| line.starts_with(&format!("{lsn} ")))
-    );
-    let piped =
-        on_terminal(&format!("--fingerprints --format 0 '{}' | cat >/dev/null", large.name()));
+    let piped = on_terminal(&format!("{fingerprints} | cat >/dev/null"));
     assert_eq!(piped.as_deref(), Some(""));
+    let shown = on_terminal(&fingerprints).expect("there is a terminal");
+    assert!(shown.contains(CLEARED), "no percentage among the lines");
+    for (lsn, line) in shown.lines().enumerate() {
+        let line = line.rsplit(CLEARED).next().unwrap_or(line);
+        assert!(line.starts_with(&format!("{lsn} ")), "{line:?}");
+    }
+}
+
+#[test]
+fn a_few_headers_are_audited_on_a_terminal_without_progress() {
     let some = Scratch::new("terminal.raw", &headers(5, &[2]));
-    let shown = on_terminal(&format!("--audit --format 2 '{}'", some.name()));
-    assert_eq!(shown.as_deref(), Some("2: unsound header\r\n5 headers, 1 unsound\r\n"));
+    if let Some(shown) = on_terminal(&format!("--audit --format 2 '{}'", some.name())) {
+        assert_eq!(shown, "2: unsound header\r\n5 headers, 1 unsound\r\n");
+    }
 }
