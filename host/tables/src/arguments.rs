@@ -58,7 +58,7 @@ impl Arguments {
                     return Ok(Arguments { mode: Mode::Help, ..parsed });
                 }
                 Some("--format") if options => {
-                    let number = rest.next().ok_or("--format needs a number")?;
+                    let number = rest.next().ok_or("--format needs 0, 1 or 2")?;
                     parsed.set_format(&number.to_string_lossy())?;
                 }
                 Some(option) if options && option.starts_with('-') => parsed.set_option(option)?,
@@ -88,7 +88,7 @@ impl Arguments {
 
     fn set_format(&mut self, number: &str) -> Result<(), String> {
         let parsed =
-            number.parse().map_err(|_| format!("--format needs a number, not {number}"))?;
+            number.parse().map_err(|_| format!("--format needs 0, 1 or 2, not {number}"))?;
         match self.format.replace(parsed) {
             None => Ok(()),
             Some(_) => Err("only one --format".to_owned()),
@@ -140,10 +140,10 @@ mod tests {
             ("--dump --json a", "only one of --dump, --json, --audit and --fingerprints"),
             ("a b", "only one image"),
             ("a -- b", "only one image"),
-            ("--format", "--format needs a number"),
-            ("--format x a", "--format needs a number, not x"),
-            ("--format=-1 a", "--format needs a number, not -1"),
-            ("--format 4294967296 a", "--format needs a number, not 4294967296"),
+            ("--format", "--format needs 0, 1 or 2"),
+            ("--format x a", "--format needs 0, 1 or 2, not x"),
+            ("--format=-1 a", "--format needs 0, 1 or 2, not -1"),
+            ("--format 4294967296 a", "--format needs 0, 1 or 2, not 4294967296"),
             ("--format 0 --format 0 a", "only one --format"),
         ] {
             assert_eq!(parse(line), Err(wrong.to_owned()), "{line}");

@@ -33,8 +33,8 @@ fn wrong_arguments() {
     wrong(&["\u{1b}[2J", "--\u{1b}[2J"], "unknown option --\u{fffd}[2J");
     wrong(&["a", "b"], "only one image");
     wrong(&["--dump", "a", "--audit"], "only one of --dump, --json, --audit and --fingerprints");
-    wrong(&["--format", "x", "a"], "--format needs a number, not x");
-    wrong(&["a", "--format"], "--format needs a number");
+    wrong(&["--format", "x", "a"], "--format needs 0, 1 or 2, not x");
+    wrong(&["a", "--format"], "--format needs 0, 1 or 2");
 }
 
 #[test]

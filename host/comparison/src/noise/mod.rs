@@ -110,7 +110,7 @@ impl Run {
         let lent = Guarded::holding(rng.below(256), &bytes);
         let before = lent.clone();
         self.images(rng, case, bytes, &lent);
-        self.lone(rng, &lent);
+        self.lone(rng, case, &lent);
         let part = &lent[..lent.len().min(DECODED)];
         let page = rng.below(2 * part.len() + 2);
         self.strings.decode_case(part, any_code(rng), page, rng.below(256));
@@ -153,15 +153,18 @@ impl Run {
         self.memory.restore();
     }
 
-    fn lone(&mut self, rng: &mut Rng, lent: &[u8]) {
+    /// As a lone table; and texts by records of any bytes, which stay as they are.
+    fn lone(&mut self, rng: &mut Rng, case: u64, lent: &[u8]) {
         if let Some(lone) = self.tables.any_case(rng, lent) {
             self.lone_texts.cases(rng, lent, &lone);
         }
         let tracks: Vec<_> = (0..MAX_TRACKS).map(|_| any_track(rng)).collect();
+        let before = tracks.clone();
         for _ in 0..4 {
             let area = any_area(rng);
             self.lone_texts.record_case(rng, lent, area, &tracks);
         }
+        self.decoded.case(&("case", case, "lone"), 0, tracks == before, true);
     }
 
     fn kinds(self) -> Vec<Kind> {
