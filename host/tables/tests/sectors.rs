@@ -5,7 +5,7 @@ mod common;
 use common::{Ran, SECTOR, SOUND, Scratch, UNSOUND, command, ran, run, stored};
 use std::fs::File;
 use std::io::{BufRead, BufReader, Read};
-use std::process::{Command, Output, Stdio};
+use std::process::{Child, Command, Output, Stdio};
 use tables::sample;
 
 /// An image of format 2: so many sectors of zeros, each header sound but some.
@@ -73,15 +73,17 @@ fn many(name: &str) -> Scratch {
     Scratch::sparse(name, &sample::image(), 40_000 * SECTOR as u64)
 }
 
+/// The command over such a file, its output not read yet.
+fn fingerprints(scratch: &Scratch) -> Child {
+    let mut command = command();
+    command.args(["--fingerprints", scratch.name()]);
+    command.stdout(Stdio::piped()).stderr(Stdio::piped()).spawn().expect("it runs")
+}
+
 #[test]
-fn a_reader_that_leaves_early_hears_nothing() {
+fn a_reader_that_leaves_early_ends_it_quietly() {
     let scratch = many("closed.iso");
-    let mut child = command()
-        .args(["--fingerprints", scratch.name()])
-        .stdout(Stdio::piped())
-        .stderr(Stdio::piped())
-        .spawn()
-        .expect("it runs");
+    let mut child = fingerprints(&scratch);
     let mut out = BufReader::new(child.stdout.take().expect("it is piped"));
     let mut line = String::new();
     out.read_line(&mut line).expect("it has a line");
@@ -94,12 +96,7 @@ fn a_reader_that_leaves_early_hears_nothing() {
 #[test]
 fn a_file_that_becomes_shorter_is_an_error() {
     let scratch = many("shrunk.iso");
-    let mut child = command()
-        .args(["--fingerprints", scratch.name()])
-        .stdout(Stdio::piped())
-        .stderr(Stdio::piped())
-        .spawn()
-        .expect("it runs");
+    let mut child = fingerprints(&scratch);
     let mut out = child.stdout.take().expect("it is piped");
     out.read_exact(&mut [0; 2]).expect("it has a line");
     // It cannot come to its end: the pipe does not take all lines.
