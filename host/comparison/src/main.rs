@@ -48,6 +48,7 @@ use tables::Tables;
 use tally::Kind;
 use texts::Texts;
 use times::Times;
+use values::Taken;
 
 /// Numbers, texts, lone tables and discs.
 fn all(options: &Options) -> Vec<Kind> {
@@ -114,11 +115,10 @@ fn areas(options: &Options) -> Vec<Kind> {
     for case in 0..options.texts {
         draws.any_case(&mut Rng::of_case(options.seed, case));
     }
-    let Tables { read, heads, shapes, values } = tables;
+    let Tables { read, heads, shapes } = tables;
     let Shapes { walk, head, tracks, items, .. } = shapes;
     let Texts { area, track, lies } = texts;
-    let values = values.kind("values of fields");
-    let records = [read, heads, walk, head, tracks, items, values];
+    let records = [read, heads, walk, head, tracks, items];
     records.into_iter().chain([area, track, lies, draws.text, draws.any]).collect()
 }
 
@@ -147,6 +147,25 @@ fn run(options: &Options) -> io::Result<Vec<Kind>> {
             Ok(cuts::kinds(seed, cuts))
         }
     }
+}
+
+/// What the fields of records took, in a run that is long enough.
+fn taken(options: &Options, kinds: &[Kind]) -> Option<Vec<Taken>> {
+    let long = options.count >= disc::SHORT && !guard::is_exact();
+    match options.mode {
+        Mode::All if long => Some(values::taken(kinds, true)),
+        Mode::Discs if long => Some(values::taken(kinds, false)),
+        _ => None,
+    }
+}
+
+/// Prints the counts of each record, and the fields that took too few values; whether there are any.
+fn print_taken(records: &[Taken]) -> bool {
+    println!("{}", values::HEADING);
+    records.iter().for_each(|record| println!("{}", record.line()));
+    let scant: Vec<_> = records.iter().flat_map(Taken::scant).collect();
+    scant.iter().for_each(|line| println!("{line}"));
+    !scant.is_empty()
 }
 
 fn print(kinds: &[Kind]) {
@@ -206,7 +225,11 @@ fn main() -> ExitCode {
     if matches!(options.mode, Mode::All | Mode::Discs) {
         println!("\n{}", coverage::table(&kinds));
     }
-    let status = verdict(&kinds);
+    let scant = taken(&options, &kinds).is_some_and(|records| print_taken(&records));
+    let status = match verdict(&kinds) {
+        0 if scant => 2,
+        status => status,
+    };
     let cases: u64 = kinds.iter().map(|kind| kind.cases).sum();
     let differences: u64 = kinds.iter().map(|kind| kind.differences).sum();
     println!("{cases} cases, {differences} differences");

@@ -15,6 +15,13 @@ pub struct Number {
     pub names: Vec<String>,
 }
 
+impl Number {
+    /// Its name in the record.
+    pub fn name(&self) -> &str {
+        &self.names[0]
+    }
+}
+
 /// A number, or what is made of numbers.
 pub trait Numbers {
     /// Hands on every number, in the order of fields and entries.
