@@ -150,22 +150,20 @@ fn run(options: &Options) -> io::Result<Vec<Kind>> {
 }
 
 /// What the fields of records took, in a run that is long enough.
-fn taken(options: &Options, kinds: &[Kind]) -> Option<Vec<Taken>> {
+fn taken(options: &Options, kinds: &[Kind]) -> Vec<Taken> {
     let long = options.count >= disc::SHORT && !guard::is_exact();
     match options.mode {
-        Mode::All if long => Some(values::taken(kinds, true)),
-        Mode::Discs if long => Some(values::taken(kinds, false)),
-        _ => None,
+        Mode::All if long => values::taken(kinds, true),
+        Mode::Discs if long => values::taken(kinds, false),
+        _ => vec![],
     }
 }
 
-/// Prints the counts of each record, and the fields that took too few values; whether there are any.
-fn print_taken(records: &[Taken]) -> bool {
+fn print_records(records: &[Taken]) {
     println!("{}", values::HEADING);
-    records.iter().for_each(|record| println!("{}", record.line()));
-    let scant: Vec<_> = records.iter().flat_map(Taken::scant).collect();
-    scant.iter().for_each(|line| println!("{line}"));
-    !scant.is_empty()
+    for record in records {
+        println!("{}", record.line());
+    }
 }
 
 fn print(kinds: &[Kind]) {
@@ -184,9 +182,14 @@ fn print(kinds: &[Kind]) {
     }
 }
 
-/// Prints the classes that have too few cases and the first differences; the exit status.
-fn verdict(kinds: &[Kind]) -> u8 {
+/// Prints the fields with too few values, the classes with too few cases and the first differences;
+/// the exit status.
+fn verdict(kinds: &[Kind], records: &[Taken]) -> u8 {
     let mut status = 0;
+    for scant in records.iter().flat_map(Taken::scant) {
+        println!("{scant}");
+        status = 2;
+    }
     // An exact run is about memory: it may have few cases.
     for kind in kinds.iter().filter(|_| !guard::is_exact()) {
         for class in kind.scant_classes() {
@@ -221,15 +224,15 @@ fn main() -> ExitCode {
             return ExitCode::from(2);
         }
     };
+    let records = taken(&options, &kinds);
     print(&kinds);
-    if matches!(options.mode, Mode::All | Mode::Discs) {
-        println!("\n{}", coverage::table(&kinds));
+    if !records.is_empty() {
+        print_records(&records);
     }
-    let scant = taken(&options, &kinds).is_some_and(|records| print_taken(&records));
-    let status = match verdict(&kinds) {
-        0 if scant => 2,
-        status => status,
-    };
+    if matches!(options.mode, Mode::All | Mode::Discs) {
+        println!("\n{}", coverage::table(&kinds, &records));
+    }
+    let status = verdict(&kinds, &records);
     let cases: u64 = kinds.iter().map(|kind| kind.cases).sum();
     let differences: u64 = kinds.iter().map(|kind| kind.differences).sum();
     println!("{cases} cases, {differences} differences");

@@ -153,6 +153,10 @@ pub fn taken(kinds: &[Kind], all: bool) -> Vec<Taken> {
 }
 
 impl Taken {
+    pub fn fields(&self) -> u64 {
+        self.fields.len() as u64
+    }
+
     /// The record, how often each field of it was compared at least, its fields, and how many take
     /// the values asked for.
     pub fn line(&self) -> String {
