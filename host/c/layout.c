@@ -1,6 +1,6 @@
 /*
  * Prints `record field offset size` for every field of every record of scarletbook.h, `-` standing for the
- * whole record, to be compared with those of the Rust crate.
+ * whole record, to be compared with those of the Rust crate. A field of another type does not compile.
  */
 #include "scarletbook.h"
 
@@ -11,275 +11,258 @@ static void line(const char *record, const char *field, size_t offset, size_t si
     printf("%s %s %lu %lu\n", record, field, (unsigned long)offset, (unsigned long)size);
 }
 
-/* Begins a function that prints the record whose type is `type`; a field of it. */
-#define RECORD(name)            \
+/* The first line of a record `r`; its fields; and those that are arrays. */
+#define RECORD(name, type)      \
+    static type r;              \
     const char *record = #name; \
-    line(record, "-", 0, sizeof(type))
+    line(record, "-", 0, sizeof r)
 
-#define FIELD(field) line(record, #field, offsetof(type, field), sizeof(((type *)0)->field))
+#define PLACE(type, field, at)                                                        \
+    do {                                                                              \
+        const type *place = at;                                                       \
+        line(record, #field, (const char *)place - (const char *)&r, sizeof r.field); \
+    } while (0)
+
+#define FIELD(type, field) PLACE(type, field, &r.field)
+#define ARRAY(type, field) PLACE(type, field, r.field)
 
 static void print_fixed_text(void)
 {
-    typedef scarletbook_fixed_text_record type;
-    RECORD(fixed_text);
-    FIELD(bytes);
-    FIELD(len);
+    RECORD(fixed_text, scarletbook_fixed_text_record);
+    ARRAY(uint8_t, bytes);
+    FIELD(uint8_t, len);
 }
 
 static void print_language_code(void)
 {
-    typedef scarletbook_language_code type;
-    RECORD(language_code);
-    FIELD(bytes);
-    FIELD(len);
+    RECORD(language_code, scarletbook_language_code);
+    ARRAY(uint8_t, bytes);
+    FIELD(uint8_t, len);
 }
 
 static void print_locale(void)
 {
-    typedef scarletbook_locale type;
-    RECORD(locale);
-    FIELD(language);
-    FIELD(language_code);
-    FIELD(charset);
+    RECORD(locale, scarletbook_locale);
+    FIELD(scarletbook_language_code, language);
+    ARRAY(uint8_t, language_code);
+    FIELD(uint8_t, charset);
 }
 
 static void print_timecode(void)
 {
-    typedef scarletbook_timecode type;
-    RECORD(timecode);
-    FIELD(minutes);
-    FIELD(seconds);
-    FIELD(frames);
+    RECORD(timecode, scarletbook_timecode);
+    FIELD(uint8_t, minutes);
+    FIELD(uint8_t, seconds);
+    FIELD(uint8_t, frames);
 }
 
 static void print_genre(void)
 {
-    typedef scarletbook_genre type;
-    RECORD(genre);
-    FIELD(category);
-    FIELD(index);
+    RECORD(genre, scarletbook_genre);
+    FIELD(uint8_t, category);
+    FIELD(uint8_t, index);
 }
 
 static void print_version(void)
 {
-    typedef scarletbook_version type;
-    RECORD(version);
-    FIELD(major);
-    FIELD(minor);
+    RECORD(version, scarletbook_version);
+    FIELD(uint8_t, major);
+    FIELD(uint8_t, minor);
 }
 
 static void print_date(void)
 {
-    typedef scarletbook_date type;
-    RECORD(date);
-    FIELD(year);
-    FIELD(month);
-    FIELD(day);
+    RECORD(date, scarletbook_date);
+    FIELD(uint16_t, year);
+    FIELD(uint8_t, month);
+    FIELD(uint8_t, day);
 }
 
 static void print_area_pointer(void)
 {
-    typedef scarletbook_area_pointer type;
-    RECORD(area_pointer);
-    FIELD(toc1_lsn);
-    FIELD(toc2_lsn);
-    FIELD(toc_sectors);
+    RECORD(area_pointer, scarletbook_area_pointer);
+    FIELD(uint32_t, toc1_lsn);
+    FIELD(uint32_t, toc2_lsn);
+    FIELD(uint16_t, toc_sectors);
 }
 
 static void print_table_origin(void)
 {
-    typedef scarletbook_table_origin type;
-    RECORD(table_origin);
-    FIELD(slot);
-    FIELD(toc_lsn);
-    FIELD(toc_sectors);
+    RECORD(table_origin, scarletbook_table_origin);
+    FIELD(uint8_t, slot);
+    FIELD(uint32_t, toc_lsn);
+    FIELD(uint16_t, toc_sectors);
 }
 
 static void print_track_times(void)
 {
-    typedef scarletbook_track_times type;
-    RECORD(track_times);
-    FIELD(start_frame);
-    FIELD(duration_frames);
+    RECORD(track_times, scarletbook_track_times);
+    FIELD(uint32_t, start_frame);
+    FIELD(uint32_t, duration_frames);
 }
 
 static void print_text_place(void)
 {
-    typedef scarletbook_text_place type;
-    RECORD(text_place);
-    FIELD(place);
+    RECORD(text_place, scarletbook_text_place);
+    FIELD(uint32_t, place);
 }
 
 static void print_comparison(void)
 {
-    typedef scarletbook_comparison type;
-    RECORD(comparison);
-    FIELD(refusal);
-    FIELD(equal);
+    RECORD(comparison, scarletbook_comparison);
+    FIELD(uint8_t, refusal);
+    FIELD(uint8_t, equal);
 }
 
 static void print_fingerprint_answer(void)
 {
-    typedef scarletbook_fingerprint_answer type;
-    RECORD(fingerprint_answer);
-    FIELD(refusal);
-    FIELD(digest);
+    RECORD(fingerprint_answer, scarletbook_fingerprint_answer);
+    FIELD(uint8_t, refusal);
+    FIELD(uint64_t, digest);
 }
 
 static void print_audit_answer(void)
 {
-    typedef scarletbook_audit_answer type;
-    RECORD(audit_answer);
-    FIELD(refusal);
-    FIELD(sound);
+    RECORD(audit_answer, scarletbook_audit_answer);
+    FIELD(uint8_t, refusal);
+    FIELD(uint8_t, sound);
 }
 
 static void print_decode_answer(void)
 {
-    typedef scarletbook_decode_answer type;
-    RECORD(decode_answer);
-    FIELD(refusal);
-    FIELD(len);
+    RECORD(decode_answer, scarletbook_decode_answer);
+    FIELD(uint8_t, refusal);
+    FIELD(size_t, len);
 }
 
 static void print_detect_answer(void)
 {
-    typedef scarletbook_detect_answer type;
-    RECORD(detect_answer);
-    FIELD(refusal);
-    FIELD(sector_format);
+    RECORD(detect_answer, scarletbook_detect_answer);
+    FIELD(uint8_t, refusal);
+    FIELD(uint32_t, sector_format);
 }
 
 static void print_cap_answer(void)
 {
-    typedef scarletbook_cap_answer type;
-    RECORD(cap_answer);
-    FIELD(start_frame);
-    FIELD(duration_frames);
-    FIELD(past_playtime);
+    RECORD(cap_answer, scarletbook_cap_answer);
+    FIELD(uint32_t, start_frame);
+    FIELD(uint32_t, duration_frames);
+    FIELD(uint8_t, past_playtime);
 }
 
 static void print_draw_answer(void)
 {
-    typedef scarletbook_draw_answer type;
-    RECORD(draw_answer);
-    FIELD(found);
-    FIELD(kind);
-    FIELD(place);
-    FIELD(len);
-    FIELD(next);
-    FIELD(left);
+    RECORD(draw_answer, scarletbook_draw_answer);
+    FIELD(uint8_t, found);
+    FIELD(uint8_t, kind);
+    FIELD(size_t, place);
+    FIELD(size_t, len);
+    FIELD(size_t, next);
+    FIELD(size_t, left);
 }
 
 static void print_chain(void)
 {
-    typedef scarletbook_chain type;
-    RECORD(chain);
-    FIELD(ttxt);
-    FIELD(igl);
-    FIELD(trl1);
-    FIELD(trl2);
+    RECORD(chain, scarletbook_chain);
+    FIELD(uint32_t, ttxt);
+    FIELD(uint32_t, igl);
+    FIELD(uint32_t, trl1);
+    FIELD(uint32_t, trl2);
 }
 
 static void print_track(void)
 {
-    typedef scarletbook_track type;
-    RECORD(track);
-    FIELD(number);
-    FIELD(start_lsn);
-    FIELD(length_sectors);
-    FIELD(times);
-    FIELD(start_flags);
-    FIELD(duration_flags);
-    FIELD(has_isrc);
-    FIELD(isrc);
-    FIELD(has_genre);
-    FIELD(genre);
-    FIELD(text);
+    RECORD(track, scarletbook_track);
+    FIELD(uint8_t, number);
+    FIELD(uint32_t, start_lsn);
+    FIELD(uint32_t, length_sectors);
+    FIELD(scarletbook_track_times, times);
+    FIELD(uint8_t, start_flags);
+    FIELD(uint8_t, duration_flags);
+    FIELD(uint8_t, has_isrc);
+    FIELD(scarletbook_fixed_text_record, isrc);
+    FIELD(uint8_t, has_genre);
+    FIELD(scarletbook_genre, genre);
+    ARRAY(scarletbook_text_place, text);
 }
 
 static void print_area(void)
 {
-    typedef scarletbook_area type;
-    RECORD(area);
-    FIELD(present);
-    FIELD(origin);
-    FIELD(kind);
-    FIELD(version);
-    FIELD(max_byte_rate);
-    FIELD(sample_frequency_code);
-    FIELD(frame_format);
-    FIELD(channel_count);
-    FIELD(area_config);
-    FIELD(max_available_channels);
-    FIELD(area_mute_flags);
-    FIELD(track_attribute);
-    FIELD(playtime);
-    FIELD(track_offset);
-    FIELD(track_count);
-    FIELD(audio_start_lsn);
-    FIELD(audio_end_lsn);
-    FIELD(text_channel_count);
-    FIELD(locale_count);
-    FIELD(locales);
-    FIELD(text_charset);
-    FIELD(text);
+    RECORD(area, scarletbook_area);
+    FIELD(uint8_t, present);
+    FIELD(scarletbook_table_origin, origin);
+    FIELD(uint8_t, kind);
+    FIELD(scarletbook_version, version);
+    FIELD(uint32_t, max_byte_rate);
+    FIELD(uint8_t, sample_frequency_code);
+    FIELD(uint8_t, frame_format);
+    FIELD(uint8_t, channel_count);
+    FIELD(uint8_t, area_config);
+    FIELD(uint8_t, max_available_channels);
+    FIELD(uint8_t, area_mute_flags);
+    FIELD(uint8_t, track_attribute);
+    FIELD(scarletbook_timecode, playtime);
+    FIELD(uint8_t, track_offset);
+    FIELD(uint16_t, track_count);
+    FIELD(uint32_t, audio_start_lsn);
+    FIELD(uint32_t, audio_end_lsn);
+    FIELD(uint8_t, text_channel_count);
+    FIELD(uint8_t, locale_count);
+    ARRAY(scarletbook_locale, locales);
+    FIELD(uint8_t, text_charset);
+    ARRAY(scarletbook_text_place, text);
 }
 
 static void print_table_head(void)
 {
-    typedef scarletbook_table_head_record type;
-    RECORD(table_head);
-    FIELD(skip);
-    FIELD(area);
-    FIELD(chain);
+    RECORD(table_head, scarletbook_table_head_record);
+    FIELD(uint8_t, skip);
+    FIELD(scarletbook_area, area);
+    FIELD(scarletbook_chain, chain);
 }
 
 static void print_table_answer(void)
 {
-    typedef scarletbook_table_answer type;
-    RECORD(table_answer);
-    FIELD(refusal);
-    FIELD(warnings);
-    FIELD(area);
+    RECORD(table_answer, scarletbook_table_answer);
+    FIELD(uint8_t, refusal);
+    FIELD(size_t, warnings);
+    FIELD(scarletbook_area, area);
 }
 
 static void print_master_toc(void)
 {
-    typedef scarletbook_master_toc type;
-    RECORD(master_toc);
-    FIELD(version);
-    FIELD(album_set_size);
-    FIELD(album_sequence_number);
-    FIELD(album_catalog_number);
-    FIELD(album_catalog_number_stored);
-    FIELD(album_genres);
-    FIELD(two_channel);
-    FIELD(multichannel);
-    FIELD(disc_flags);
-    FIELD(disc_catalog_number);
-    FIELD(disc_catalog_number_stored);
-    FIELD(disc_genres);
-    FIELD(date);
-    FIELD(text_channel_count);
-    FIELD(locale_count);
-    FIELD(locales);
-    FIELD(text_charset);
-    FIELD(text);
-    FIELD(manufacturer);
+    RECORD(master_toc, scarletbook_master_toc);
+    FIELD(scarletbook_version, version);
+    FIELD(uint16_t, album_set_size);
+    FIELD(uint16_t, album_sequence_number);
+    FIELD(scarletbook_fixed_text_record, album_catalog_number);
+    FIELD(scarletbook_fixed_text_record, album_catalog_number_stored);
+    ARRAY(scarletbook_genre, album_genres);
+    FIELD(scarletbook_area_pointer, two_channel);
+    FIELD(scarletbook_area_pointer, multichannel);
+    FIELD(uint8_t, disc_flags);
+    FIELD(scarletbook_fixed_text_record, disc_catalog_number);
+    FIELD(scarletbook_fixed_text_record, disc_catalog_number_stored);
+    ARRAY(scarletbook_genre, disc_genres);
+    FIELD(scarletbook_date, date);
+    FIELD(uint8_t, text_channel_count);
+    FIELD(uint8_t, locale_count);
+    ARRAY(scarletbook_locale, locales);
+    FIELD(uint8_t, text_charset);
+    ARRAY(scarletbook_text_place, text);
+    FIELD(uint8_t, manufacturer);
 }
 
 static void print_disc_answer(void)
 {
-    typedef scarletbook_disc_answer type;
-    RECORD(disc_answer);
-    FIELD(refusal);
-    FIELD(warnings);
-    FIELD(sector_format);
-    FIELD(sectors);
-    FIELD(master);
-    FIELD(two_channel);
-    FIELD(multichannel);
+    RECORD(disc_answer, scarletbook_disc_answer);
+    FIELD(uint8_t, refusal);
+    FIELD(size_t, warnings);
+    FIELD(uint32_t, sector_format);
+    FIELD(size_t, sectors);
+    FIELD(scarletbook_master_toc, master);
+    FIELD(scarletbook_area, two_channel);
+    FIELD(scarletbook_area, multichannel);
 }
 
 int main(void)
