@@ -51,25 +51,22 @@ macro_rules! scalars {
 
 scalars! { u8 u16 u32 u64 usize }
 
-impl Numbers for Lsn {
-    fn each(&self, to: &mut impl FnMut(u64)) {
-        self.0.each(to);
-    }
+/// Numbers of 32 bits with a type of their own.
+macro_rules! units {
+    ($($unit:ty)*) => {
+        $(impl Numbers for $unit {
+            fn each(&self, to: &mut impl FnMut(u64)) {
+                self.0.each(to);
+            }
 
-    fn list() -> Vec<Number> {
-        u32::list()
-    }
+            fn list() -> Vec<Number> {
+                u32::list()
+            }
+        })*
+    };
 }
 
-impl Numbers for Frame {
-    fn each(&self, to: &mut impl FnMut(u64)) {
-        self.0.each(to);
-    }
-
-    fn list() -> Vec<Number> {
-        u32::list()
-    }
-}
+units! { Lsn Frame }
 
 impl<T: Numbers, const N: usize> Numbers for [T; N] {
     fn each(&self, to: &mut impl FnMut(u64)) {
