@@ -78,11 +78,11 @@ enum {
 
 enum {
     SCARLETBOOK_FOREIGN_FORMAT = 1,   /* the format is not 0, 1 or 2 */
-    SCARLETBOOK_SHORT_BUFFER = 2,      /* less is lent than the call asks for */
+    SCARLETBOOK_SHORT_BUFFER = 2,     /* less is lent than the call asks for */
     SCARLETBOOK_CUT_MASTER = 3,       /* the image has fewer than 520 whole sectors */
     SCARLETBOOK_NOT_SCARLET_BOOK = 4, /* LSN 510 does not begin SACDMTOC */
     SCARLETBOOK_NEWER_EDITION = 5,    /* the master table's major version is above 1 */
-    SCARLETBOOK_NO_AREA = 6,      /* neither slot, or not the lone table, yields an area */
+    SCARLETBOOK_NO_AREA = 6,          /* neither slot, or not the lone table, yields an area */
     SCARLETBOOK_ODD_TABLE = 7,        /* a lone table of 0 bytes, over 262,144, or no multiple of 2,048 */
     SCARLETBOOK_NO_SUCH_ENTRY = 8,    /* no such track, item or area, or a sector not in the image */
     SCARLETBOOK_SET_NOT_HELD = 9,     /* a text that is there is of set 3, 4, 5 or 6 */
@@ -643,66 +643,6 @@ uint32_t scarletbook_frame_number(scarletbook_timecode time);
 
 /* A track's start and duration: as they are if they end within the play time, else capped at it. */
 scarletbook_cap_answer scarletbook_cap(uint32_t start, uint32_t duration, uint32_t playtime);
-
-/* ---- Samples ----
- *
- * For tests of a layout: a record with every field different, and whether a record is that sample (1 or 0).
- * The scalars of a record are numbered from 1 in the order of its fields; number k is k in 8 bits, 1000 + k in
- * 16, 100000000 + k in 32, 1000000000000000000 + k in 64. In a disc_answer `master` and `two_channel` are
- * numbered from 1 again, `multichannel` from 101.
- */
-
-scarletbook_fixed_text_record scarletbook_sample_fixed_text(void);
-scarletbook_language_code scarletbook_sample_language_code(void);
-scarletbook_locale scarletbook_sample_locale(void);
-scarletbook_timecode scarletbook_sample_timecode(void);
-scarletbook_genre scarletbook_sample_genre(void);
-scarletbook_version scarletbook_sample_version(void);
-scarletbook_date scarletbook_sample_date(void);
-scarletbook_area_pointer scarletbook_sample_area_pointer(void);
-scarletbook_table_origin scarletbook_sample_table_origin(void);
-scarletbook_track_times scarletbook_sample_track_times(void);
-scarletbook_text_place scarletbook_sample_text_place(void);
-scarletbook_comparison scarletbook_sample_comparison(void);
-scarletbook_fingerprint_answer scarletbook_sample_fingerprint_answer(void);
-scarletbook_audit_answer scarletbook_sample_audit_answer(void);
-scarletbook_decode_answer scarletbook_sample_decode_answer(void);
-scarletbook_detect_answer scarletbook_sample_detect_answer(void);
-scarletbook_cap_answer scarletbook_sample_cap_answer(void);
-scarletbook_draw_answer scarletbook_sample_draw_answer(void);
-scarletbook_chain scarletbook_sample_chain(void);
-scarletbook_track scarletbook_sample_track(void);
-scarletbook_area scarletbook_sample_area(void);
-scarletbook_table_head_record scarletbook_sample_table_head(void);
-scarletbook_table_answer scarletbook_sample_table_answer(void);
-scarletbook_master_toc scarletbook_sample_master_toc(void);
-scarletbook_disc_answer scarletbook_sample_disc_answer(void);
-
-uint8_t scarletbook_is_sample_fixed_text(scarletbook_fixed_text_record value);
-uint8_t scarletbook_is_sample_language_code(scarletbook_language_code value);
-uint8_t scarletbook_is_sample_locale(scarletbook_locale value);
-uint8_t scarletbook_is_sample_timecode(scarletbook_timecode value);
-uint8_t scarletbook_is_sample_genre(scarletbook_genre value);
-uint8_t scarletbook_is_sample_version(scarletbook_version value);
-uint8_t scarletbook_is_sample_date(scarletbook_date value);
-uint8_t scarletbook_is_sample_area_pointer(scarletbook_area_pointer value);
-uint8_t scarletbook_is_sample_table_origin(scarletbook_table_origin value);
-uint8_t scarletbook_is_sample_track_times(scarletbook_track_times value);
-uint8_t scarletbook_is_sample_text_place(scarletbook_text_place value);
-uint8_t scarletbook_is_sample_comparison(scarletbook_comparison value);
-uint8_t scarletbook_is_sample_fingerprint_answer(scarletbook_fingerprint_answer value);
-uint8_t scarletbook_is_sample_audit_answer(scarletbook_audit_answer value);
-uint8_t scarletbook_is_sample_decode_answer(scarletbook_decode_answer value);
-uint8_t scarletbook_is_sample_detect_answer(scarletbook_detect_answer value);
-uint8_t scarletbook_is_sample_cap_answer(scarletbook_cap_answer value);
-uint8_t scarletbook_is_sample_draw_answer(scarletbook_draw_answer value);
-uint8_t scarletbook_is_sample_chain(scarletbook_chain value);
-uint8_t scarletbook_is_sample_track(scarletbook_track value);
-uint8_t scarletbook_is_sample_area(scarletbook_area value);
-uint8_t scarletbook_is_sample_table_head(scarletbook_table_head_record value);
-uint8_t scarletbook_is_sample_table_answer(scarletbook_table_answer value);
-uint8_t scarletbook_is_sample_master_toc(scarletbook_master_toc value);
-uint8_t scarletbook_is_sample_disc_answer(scarletbook_disc_answer value);
 
 #ifdef __cplusplus
 }

@@ -1,4 +1,1 @@
 pub mod Answers
-pub mod Numbered
-pub mod Same
-pub mod Layout

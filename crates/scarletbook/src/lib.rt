@@ -24,11 +24,6 @@ ghost use Rattle.text.specs.Fixed.{fixedBytesOf, fixedTextOf};
 ghost use Rattle.text.specs.Language.{languageOf};
 ghost use Rattle.text.specs.String.{stringAt};
 ghost use Rattle.scarletbook.specs.Answers.{flagOf, capAnswer, drawAnswer};
-
-pub mod layout;
-mod numbered;
-mod same;
-
 use area::area::Area;
 use area::cap::Capped;
 use area::items::Drawn;

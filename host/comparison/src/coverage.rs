@@ -2,6 +2,7 @@
 
 use crate::disc::{CODES, READS};
 use crate::tally::Kind;
+use crate::values::Taken;
 use scarletbook::{Refusal, WarningCode};
 
 /// A line: what it says, and the kind and its class that count it; all cases for no class.
@@ -40,7 +41,7 @@ const DISCS: [(&str, &str, &str); 28] = [
 ];
 
 /// The lines of the table, for a document.
-pub fn table(kinds: &[Kind]) -> String {
+pub fn table(kinds: &[Kind], records: &[Taken]) -> String {
     let mut table = row("Compared", "Count") + &row("---", "---:");
     for (words, kind, class) in lines() {
         let Some(kind) = kinds.iter().find(|other| other.name == kind) else { continue };
@@ -51,7 +52,11 @@ pub fn table(kinds: &[Kind]) -> String {
     let scant = kinds.iter().map(|kind| kind.scant_classes().count() as u64).sum();
     let cases = kinds.iter().map(|kind| kind.cases).sum();
     let differences = kinds.iter().map(|kind| kind.differences).sum();
+    let fields = records.iter().map(Taken::fields).sum();
+    let few = records.iter().map(|record| record.scant().count() as u64).sum();
     let sums = [
+        ("fields of records", fields),
+        ("fields with too few values", few),
         ("classes of cases", classes),
         ("classes with too few cases", scant),
         ("all answers", cases),

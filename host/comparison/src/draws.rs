@@ -87,7 +87,7 @@ impl Draws {
         let expected = plain_draw(&table, next, left);
         let kind = &mut self.any;
         let question = ("table", Buffer(&table), "next", next, "left", left);
-        kind.case(&question, 0, draw_at(&table, next, left), expected);
+        kind.record_case(&question, 0, draw_at(&table, next, left), expected);
         kind.class_if("found", expected.found == 1);
         kind.class_if("last item", expected.found == 1 && expected.next == table.len());
         kind.class_if("at the end", next == table.len() && next > 0 && left > 0);

@@ -84,7 +84,7 @@ impl Fields {
     fn language_case(&mut self, code: [u8; 2]) {
         let rust = rust::language(code);
         let kind = &mut self.language;
-        kind.case(&("code", code), 0, scarletbook::raw::language(code), rust);
+        kind.record_case(&("code", code), 0, scarletbook::raw::language(code), rust);
         let [first, second] = code;
         kind.class_if("two characters", rust.len == 2);
         kind.class_if("one before a zero", rust.len == 1 && second == 0);
@@ -98,8 +98,8 @@ impl Fields {
     fn field_case(&mut self, field: &[u8]) {
         let (stored, trimmed) = (rust::fixed_bytes(field), rust::fixed_text(field));
         let question = ("field", field);
-        self.fixed_bytes.case(&question, 0, scarletbook::raw::fixed_bytes(field), stored);
-        self.fixed_text.case(&question, 0, scarletbook::raw::fixed_text(field), trimmed);
+        self.fixed_bytes.record_case(&question, 0, scarletbook::raw::fixed_bytes(field), stored);
+        self.fixed_text.record_case(&question, 0, scarletbook::raw::fixed_text(field), trimmed);
         for kind in [&mut self.fixed_bytes, &mut self.fixed_text] {
             count_field(kind, field);
         }

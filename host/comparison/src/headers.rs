@@ -56,7 +56,8 @@ fn put(image: &mut Vec<u8>, headers: &[Header]) {
 fn audit(kind: &mut Kind, image: &[u8], lsn: u32, header: Header) {
     let sound = header::is_sound(header);
     let expected = AuditAnswer { refusal: 0, sound: u8::from(sound) };
-    kind.case(&header, 0, scarletbook::raw::audit(SectorFormat::Raw2064, image, lsn), expected);
+    let audited = scarletbook::raw::audit(SectorFormat::Raw2064, image, lsn);
+    kind.record_case(&header, 0, audited, expected);
     kind.class_if("sound", sound);
     kind.class_if("unsound", !sound);
 }

@@ -6,7 +6,7 @@ use crate::tally::Kind;
 use generate::Rng;
 use generate::layout::DATA;
 use generate::table::Structure;
-use scarletbook::raw::{Area, Chain, Lsn, TableOrigin, table_head};
+use scarletbook::raw::{Area, Chain, Lsn, TableHead, TableOrigin, table_head};
 
 pub fn kind() -> Kind {
     let skips = ["not skipped", "skip 8", "skip 9", "skip 10", "skip 11", "bytes behind the table"];
@@ -16,7 +16,7 @@ pub fn kind() -> Kind {
 /// A table of whole sectors and what the Rust gives of it, in any slot and at any address.
 pub fn case(kind: &mut Kind, rng: &mut Rng, table: &[u8], lone: &Lone) {
     let origin = TableOrigin {
-        slot: rng.pick(&[1, 2]),
+        slot: rng.pick(&[1, 2, 0, 255]),
         toc_lsn: Lsn(rng.word() as u32),
         toc_sectors: (table.len() / DATA) as u16,
     };
@@ -28,10 +28,8 @@ pub fn case(kind: &mut Kind, rng: &mut Rng, table: &[u8], lone: &Lone) {
         None => lone.words.last().map_or(0, |word| (word >> 16) as u8),
     };
     let area = if skip == 0 { Area { origin, ..lone.area } } else { Area::default() };
-    // The Rust walks before it skips by 9, 10 or 11, and does not say what it met.
-    let chain = if skip == 0 { chain(table) } else { head.chain };
     let question = ("bytes", lent.len(), "origin", origin);
-    kind.case(&question, 0, (head.skip, head.area, head.chain), (skip, area, chain));
+    kind.record_case(&question, 0, head, TableHead { skip, area, chain: chain(table) });
     for (code, class) in [(8, "skip 8"), (9, "skip 9"), (10, "skip 10"), (11, "skip 11")] {
         kind.class_if(class, skip == code);
     }

@@ -48,6 +48,7 @@ use tables::Tables;
 use tally::Kind;
 use texts::Texts;
 use times::Times;
+use values::Taken;
 
 /// Numbers, texts, lone tables and discs.
 fn all(options: &Options) -> Vec<Kind> {
@@ -114,11 +115,10 @@ fn areas(options: &Options) -> Vec<Kind> {
     for case in 0..options.texts {
         draws.any_case(&mut Rng::of_case(options.seed, case));
     }
-    let Tables { read, heads, shapes, values } = tables;
+    let Tables { read, heads, shapes } = tables;
     let Shapes { walk, head, tracks, items, .. } = shapes;
     let Texts { area, track, lies } = texts;
-    let values = values.kind("values of fields");
-    let records = [read, heads, walk, head, tracks, items, values];
+    let records = [read, heads, walk, head, tracks, items];
     records.into_iter().chain([area, track, lies, draws.text, draws.any]).collect()
 }
 
@@ -149,6 +149,23 @@ fn run(options: &Options) -> io::Result<Vec<Kind>> {
     }
 }
 
+/// What the fields of records took, in a run that is long enough.
+fn taken(options: &Options, kinds: &[Kind]) -> Vec<Taken> {
+    let long = options.count >= disc::SHORT && !guard::is_exact();
+    match options.mode {
+        Mode::All if long => values::taken(kinds, true),
+        Mode::Discs if long => values::taken(kinds, false),
+        _ => vec![],
+    }
+}
+
+fn print_records(records: &[Taken]) {
+    println!("{}", values::HEADING);
+    for record in records {
+        println!("{}", record.line());
+    }
+}
+
 fn print(kinds: &[Kind]) {
     println!(
         "{:<19}{:>11}{:>11}{:>10}{:>13}",
@@ -165,9 +182,14 @@ fn print(kinds: &[Kind]) {
     }
 }
 
-/// Prints the classes that have too few cases and the first differences; the exit status.
-fn verdict(kinds: &[Kind]) -> u8 {
+/// Prints the fields with too few values, the classes with too few cases and the first differences;
+/// the exit status.
+fn verdict(kinds: &[Kind], records: &[Taken]) -> u8 {
     let mut status = 0;
+    for scant in records.iter().flat_map(Taken::scant) {
+        println!("{scant}");
+        status = 2;
+    }
     // An exact run is about memory: it may have few cases.
     for kind in kinds.iter().filter(|_| !guard::is_exact()) {
         for class in kind.scant_classes() {
@@ -202,11 +224,15 @@ fn main() -> ExitCode {
             return ExitCode::from(2);
         }
     };
+    let records = taken(&options, &kinds);
     print(&kinds);
-    if matches!(options.mode, Mode::All | Mode::Discs) {
-        println!("\n{}", coverage::table(&kinds));
+    if !records.is_empty() {
+        print_records(&records);
     }
-    let status = verdict(&kinds);
+    if matches!(options.mode, Mode::All | Mode::Discs) {
+        println!("\n{}", coverage::table(&kinds, &records));
+    }
+    let status = verdict(&kinds, &records);
     let cases: u64 = kinds.iter().map(|kind| kind.cases).sum();
     let differences: u64 = kinds.iter().map(|kind| kind.differences).sum();
     println!("{cases} cases, {differences} differences");

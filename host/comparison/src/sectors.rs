@@ -111,7 +111,7 @@ impl Sectors {
         let rust = expected_comparison(rust, run, &lent);
         let refusal = rust.refusal;
         let kind = &mut self.compare;
-        kind.case(&question(image, run, lent.len(), 0), refusal, library, rust);
+        kind.record_case(&question(image, run, lent.len(), 0), refusal, library, rust);
         count_run(kind, image, run, Place { len: lent.len(), at: 0 }, refusal);
         let longer = end_in(run, 0) < Some(lent.len());
         kind.class_if("equal", rust.equal == 1 && run.count > 0);
@@ -124,7 +124,7 @@ impl Sectors {
         let rust = expected_fingerprint(rust, lsn);
         let refusal = rust.refusal;
         let kind = &mut self.fingerprint;
-        kind.case(&question(image, Run { lsn, count: 1 }, 0, 0), refusal, library, rust);
+        kind.record_case(&question(image, Run { lsn, count: 1 }, 0, 0), refusal, library, rust);
         count_format(kind, image.format, refusal == 0);
     }
 
@@ -133,7 +133,7 @@ impl Sectors {
         let expected = expected_audit(image, rust, lsn);
         let kind = &mut self.audit;
         let refusal = expected.refusal;
-        kind.case(&question(image, Run { lsn, count: 1 }, 0, 0), refusal, library, expected);
+        kind.record_case(&question(image, Run { lsn, count: 1 }, 0, 0), refusal, library, expected);
         kind.class_if("sound", expected.sound == 1);
         kind.class_if("unsound", refusal == 0 && expected.sound == 0);
     }

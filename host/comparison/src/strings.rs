@@ -129,6 +129,7 @@ impl Strings {
         let rust = Decoded { answer, page: Buffer(theirs.all()) };
         let kind = &mut self.decode;
         let question = Question { bytes: Buffer(bytes), code, page };
+        kind.values.note(&library.answer, &rust.answer);
         kind.case(&question, answer.refusal, library, rust);
         count_code(kind, bytes, code, page, answer);
         count_page(kind, bytes, page, answer);

@@ -6,7 +6,6 @@ use crate::lone::Lone;
 use crate::sectors::Buffer;
 use crate::shapes::Shapes;
 use crate::tally::Kind;
-use crate::values::Values;
 use generate::Rng;
 use generate::layout::DATA;
 use generate::table::MOST_SECTORS;
@@ -42,7 +41,6 @@ pub struct Tables {
     pub read: Kind,
     pub heads: Kind,
     pub shapes: Shapes,
-    pub values: Values,
 }
 
 impl Tables {
@@ -59,7 +57,6 @@ impl Tables {
             ),
             heads: heads::kind(),
             shapes: Shapes::new(),
-            values: Values::new(),
         }
     }
 
@@ -70,9 +67,7 @@ impl Tables {
         self.read_case(any_lent(rng), table, Some(&lone));
         heads::case(&mut self.heads, rng, table, &lone);
         self.shapes.count(table, &lone);
-        lone.rust.as_ref()?;
-        self.values.note(&lone);
-        Some(lone)
+        lone.rust.is_some().then_some(lone)
     }
 
     /// The table cut or made longer, to any length.
@@ -96,8 +91,10 @@ impl Tables {
         let answer = scarletbook::raw::read_table(table, &mut ours.tracks, &mut ours.words);
         let mut theirs = lent;
         let expected = expected(lone, &mut theirs);
-        let [library, rust] = left((answer, &ours), (expected, &theirs));
         let kind = &mut self.read;
+        kind.values.note(&answer, &expected);
+        kind.values.note_all(&ours.tracks, written(&expected, lone));
+        let [library, rust] = left((answer, &ours), (expected, &theirs));
         let question = Question { table: Buffer(table), tracks, words };
         kind.case(&question, expected.refusal, library, rust);
         count(kind, table.len(), tracks, words, expected.refusal);
@@ -131,6 +128,14 @@ fn expected(lone: Option<&Lone>, lent: &mut Lent) -> TableAnswer {
     write(&mut lent.tracks, &lone.tracks);
     write(&mut lent.words, &lone.words);
     lone.answer()
+}
+
+/// The track records that a read writes.
+fn written<'a>(answer: &TableAnswer, lone: Option<&'a Lone>) -> &'a [Track] {
+    match lone {
+        Some(lone) if answer.refusal == 0 => &lone.tracks,
+        _ => &[],
+    }
 }
 
 /// Writes to the start of a list what fits.

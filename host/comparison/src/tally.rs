@@ -1,5 +1,7 @@
 //! Counts the cases of one kind of comparison.
 
+use crate::values::Values;
+use records::Record;
 use std::fmt::Debug;
 
 /// One kind of comparison.
@@ -14,12 +16,15 @@ pub struct Kind {
     pub least: u64,
     /// The first case whose answers differ.
     pub first: Option<String>,
+    /// The values of the records that were compared.
+    pub values: Values,
 }
 
 impl Kind {
     pub fn new(name: &'static str, classes: &[&'static str]) -> Self {
         let classes = classes.iter().map(|&class| (class, 0)).collect();
-        Kind { name, cases: 0, refused: 0, differences: 0, classes, least: 1, first: None }
+        let values = Values::default();
+        Kind { name, cases: 0, refused: 0, differences: 0, classes, least: 1, first: None, values }
     }
 
     /// Counts a case whose expected answer has this refusal.
@@ -39,6 +44,18 @@ impl Kind {
                 format!("{question:?}\n  library: {library:?}\n  Rust:    {rust:?}")
             });
         }
+    }
+
+    /// The same of an answer that is a record; the values of its fields are noted.
+    pub fn record_case<R: Record + PartialEq + Debug>(
+        &mut self,
+        question: &dyn Debug,
+        refusal: u8,
+        library: R,
+        rust: R,
+    ) {
+        self.values.note(&library, &rust);
+        self.case(question, refusal, library, rust);
     }
 
     /// Counts so many cases for a class.
@@ -65,6 +82,7 @@ impl Kind {
             *count += more;
         }
         self.first = self.first.take().or(other.first);
+        self.values.add(&other.values);
     }
 
     /// The cases of a class; 0 for one that the kind does not have.

@@ -161,6 +161,7 @@ fn decode_case(
     let rust = Decoded { answer, page: Buffer(theirs.all()) };
     let (bytes, tracks) = (lent.table.len(), lent.tracks.len());
     let question = Question { bytes, area: lent.area, tracks, which, page };
+    kind.values.note(&library.answer, &rust.answer);
     kind.case(&question, answer.refusal, library, rust);
     answer
 }

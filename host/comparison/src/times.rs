@@ -64,7 +64,7 @@ impl Times {
         let library = scarletbook::raw::cap(Frame(start), Frame(duration), Frame(playtime));
         let kind = &mut self.cap;
         let question = (start, duration, playtime);
-        kind.case(&question, 0, library, expected_cap(start, duration, playtime));
+        kind.record_case(&question, 0, library, expected_cap(start, duration, playtime));
         let (sum, whole) = (u64::from(start) + u64::from(duration), u64::from(playtime));
         kind.class_if("sum is the play time", sum == whole);
         kind.class_if("sum one above", sum == whole + 1);

@@ -1,192 +1,227 @@
-//! How many values each field of the records takes among the accepted tables and discs.
+//! The values that the fields of records take where the library's answer and the expected one are equal.
+//! Every field of every record that crosses is asked for, by the list of the crate `records`.
 
-use crate::lone::Lone;
 use crate::tally::Kind;
-use scarletbook::raw::{Area, FixedText, Locale, Track};
-use std::collections::BTreeSet;
+use records::{Number, Record};
+use std::collections::{BTreeMap, BTreeSet};
 
-/// A field: its name, the values that it must take at least, and those that it took.
-type Field = (&'static str, usize, BTreeSet<u64>);
+/// The values that a field must take at least: three, and the zero of a refused answer.
+const LEAST: usize = 4;
 
 /// More values than these are not told apart.
-const MOST: usize = 100;
+const MOST: usize = 16;
 
+const FLAG: &[u64] = &[0, 1];
+
+/// The fields that have few values: each must take every one of these, and no other.
+const FEW: [(&str, &[u64]); 29] = [
+    ("comparison.refusal", &[0, 1, 2, 8]),
+    ("comparison.equal", FLAG),
+    ("fingerprint_answer.refusal", &[0, 1, 8]),
+    ("audit_answer.refusal", &[0, 1, 8, 11]),
+    ("audit_answer.sound", FLAG),
+    ("decode_answer.refusal", &[0, 2, 8, 9, 10]),
+    ("detect_answer.refusal", &[0, 4]),
+    ("detect_answer.sector_format", &[0, 1, 2]),
+    ("cap_answer.past_playtime", FLAG),
+    ("draw_answer.found", FLAG),
+    ("language_code.len", &[0, 1, 2]),
+    ("area.present", FLAG),
+    ("area.kind", &[0, 1, 2]),
+    ("track.has_isrc", FLAG),
+    ("track.has_genre", FLAG),
+    // An ISRC has 12 bytes.
+    ("track.isrc.bytes[12]", &[0]),
+    ("track.isrc.bytes[13]", &[0]),
+    ("track.isrc.bytes[14]", &[0]),
+    ("track.isrc.bytes[15]", &[0]),
+    ("table_head.skip", &[0, 8, 9, 10, 11]),
+    ("table_answer.refusal", &[0, 2, 6, 7]),
+    // A lone table is slot 1 at address 0.
+    ("table_answer.area.origin.slot", &[0, 1]),
+    ("table_answer.area.origin.toc_lsn", &[0]),
+    // A major version above 1 is refused.
+    ("master_toc.version.major", &[0, 1]),
+    ("master_toc.manufacturer", FLAG),
+    ("disc_answer.refusal", &[0, 1, 2, 3, 4, 5, 6]),
+    ("disc_answer.sector_format", &[0, 1, 2]),
+    ("disc_answer.two_channel.origin.slot", &[0, 1]),
+    ("disc_answer.multichannel.origin.slot", &[0, 2]),
+];
+
+/// What was noted of one record.
+struct Noted {
+    /// How often it was compared.
+    times: u64,
+    numbers: Vec<Number>,
+    /// The values of each number.
+    values: Vec<BTreeSet<u64>>,
+}
+
+/// What was noted of each record, by its name.
 #[derive(Default)]
 pub struct Values {
-    fields: Vec<Field>,
-    noted: u64,
+    noted: BTreeMap<&'static str, Noted>,
 }
 
 impl Values {
-    pub fn new() -> Self {
-        Values::default()
+    /// Notes the numbers of a record that are equal in both.
+    pub fn note<R: Record>(&mut self, library: &R, expected: &R) {
+        let noted = self.noted.entry(R::NAME).or_insert_with(|| Noted::new(R::list()));
+        noted.times += 1;
+        let mut theirs = Vec::with_capacity(noted.values.len());
+        expected.each(&mut |number| theirs.push(number));
+        let mut pairs = theirs.into_iter().zip(&mut noted.values);
+        library.each(&mut |number| {
+            let (theirs, values) = pairs.next().expect("each record has the numbers of the list");
+            if number == theirs && values.len() < MOST {
+                values.insert(number);
+            }
+        });
     }
 
-    /// The records of a lone table, whose address never changes.
-    pub fn note(&mut self, lone: &Lone) {
-        self.note_area(&lone.area, &lone.tracks, 1);
-    }
-
-    /// The records of an area whose address takes at least so many values.
-    pub fn note_area(&mut self, area: &Area, tracks: &[Track], addresses: usize) {
-        let fields = area_values(area, addresses);
-        let before = fields.len();
-        self.note_fields(0, fields);
-        for track in tracks {
-            self.note_fields(before, track_values(track));
+    /// Notes the records of two lists, pair by pair.
+    pub fn note_all<R: Record>(&mut self, library: &[R], expected: &[R]) {
+        for (library, expected) in library.iter().zip(expected) {
+            self.note(library, expected);
         }
     }
 
-    /// Fields that stand behind so many others.
-    pub fn note_fields(&mut self, before: usize, fields: Vec<(&'static str, usize, u64)>) {
-        for (at, (name, least, value)) in fields.into_iter().enumerate() {
-            self.add(before + at, name, least, value);
-        }
-    }
-
-    fn add(&mut self, at: usize, name: &'static str, least: usize, value: u64) {
-        if self.fields.len() == at {
-            self.fields.push((name, least, BTreeSet::new()));
-        }
-        let values = &mut self.fields[at].2;
-        if values.len() < MOST {
-            values.insert(value);
-        }
-        self.noted += 1;
-    }
-
-    /// Adds the values of other records.
-    pub fn merge(&mut self, other: Values) {
-        self.noted += other.noted;
-        for (at, field) in other.fields.into_iter().enumerate() {
-            match self.fields.get_mut(at) {
-                Some((_, _, values)) => values.extend(field.2),
-                None => self.fields.push(field),
+    /// Adds what others noted.
+    pub fn add(&mut self, other: &Values) {
+        for (name, more) in &other.noted {
+            let noted = self.noted.entry(name).or_insert_with(|| Noted::new(more.numbers.clone()));
+            noted.times += more.times;
+            for (values, more) in noted.values.iter_mut().zip(&more.values) {
+                values.extend(more);
             }
         }
     }
 
-    /// A kind with a class for each field, empty if it took too few values.
-    pub fn kind(&self, name: &'static str) -> Kind {
-        let names: Vec<_> = self.fields.iter().map(|field| field.0).collect();
-        let mut kind = Kind::new(name, &names);
-        kind.cases = self.noted;
-        for (name, least, values) in &self.fields {
-            let count = values.len().min(MOST);
-            kind.class(name, if count < *least { 0 } else { count });
+    /// What was noted under each name of a number.
+    fn by_name(&self) -> BTreeMap<&str, Field> {
+        let mut fields = BTreeMap::<_, Field>::new();
+        for Noted { times, numbers, values } in self.noted.values() {
+            for (number, values) in numbers.iter().zip(values) {
+                for name in &number.names {
+                    let field = fields.entry(name.as_str()).or_default();
+                    field.times += times;
+                    field.values.extend(values);
+                }
+            }
         }
-        kind
+        fields
     }
 }
 
-/// Each field's name, the values that it must take at least, and the one here. The flag and the slot
-/// never change; a kind has two values.
-fn area_values(area: &Area, addresses: usize) -> Vec<(&'static str, usize, u64)> {
-    let mut values = vec![
-        ("area.present", 1, area.present.into()),
-        ("slot", 1, area.origin.slot.into()),
-        ("toc_lsn", addresses, area.origin.toc_lsn.0.into()),
-        ("toc_sectors", 3, area.origin.toc_sectors.into()),
-        ("kind", 2, area.kind.into()),
-        ("version.major", 3, area.version.major.into()),
-        ("version.minor", 3, area.version.minor.into()),
-        ("max_byte_rate", 3, area.max_byte_rate.into()),
-        ("sample_frequency_code", 3, area.sample_frequency_code.into()),
-        ("frame_format", 3, area.frame_format.into()),
-        ("channel_count", 3, area.channel_count.into()),
-        ("area_config", 3, area.area_config.into()),
-        ("max_available_channels", 3, area.max_available_channels.into()),
-        ("area_mute_flags", 3, area.area_mute_flags.into()),
-        ("track_attribute", 3, area.track_attribute.into()),
-        ("playtime.minutes", 3, area.playtime.minutes.into()),
-        ("playtime.seconds", 3, area.playtime.seconds.into()),
-        ("playtime.frames", 3, area.playtime.frames.into()),
-        ("track_offset", 3, area.track_offset.into()),
-        ("track_count", 3, area.track_count.into()),
-        ("audio_start_lsn", 3, area.audio_start_lsn.0.into()),
-        ("audio_end_lsn", 3, area.audio_end_lsn.0.into()),
-        ("text_channel_count", 3, area.text_channel_count.into()),
-        ("locale_count", 3, area.locale_count.into()),
-        ("text_charset", 3, area.text_charset.into()),
-    ];
-    values.extend(locale_values(&area.locales));
-    for (name, text) in AREA_TEXTS.iter().zip(area.text) {
-        values.push((name, 3, text.place.into()));
+impl Noted {
+    fn new(numbers: Vec<Number>) -> Self {
+        let values = vec![BTreeSet::new(); numbers.len()];
+        Noted { times: 0, numbers, values }
     }
-    values
 }
 
-/// The fields of locales, at most 10.
-pub fn locale_values(locales: &[Locale]) -> Vec<(&'static str, usize, u64)> {
-    let named = LOCALES.iter().zip(locales);
-    let values = named.flat_map(|(names, locale)| {
-        let [first, second] = locale.language.bytes.map(u64::from);
-        [
-            (names[0], 3, first << 8 | second),
-            (names[1], 3, locale.language.len.into()),
-            (names[2], 3, u16::from_be_bytes(locale.language_code).into()),
-            (names[3], 3, locale.charset.into()),
-        ]
+/// What was noted of one field, by itself or within a larger record.
+#[derive(Clone, Default)]
+struct Field {
+    times: u64,
+    values: BTreeSet<u64>,
+}
+
+/// The first line of those that [`Taken::line`] gives.
+pub const HEADING: &str = "record                compared     fields       met";
+
+/// What the fields of one record took.
+pub struct Taken {
+    record: &'static str,
+    fields: Vec<(Number, Field)>,
+}
+
+/// What the fields of every record took; if not all are asked for, of those that were compared by themselves.
+pub fn taken(kinds: &[Kind], all: bool) -> Vec<Taken> {
+    let mut sum = Values::default();
+    kinds.iter().for_each(|kind| sum.add(&kind.values));
+    let by_name = sum.by_name();
+    let records = records::records().into_iter();
+    let asked = records.filter(|record| all || sum.noted.contains_key(record.0));
+    let fields = asked.map(|(record, numbers)| {
+        let noted = |number: &Number| by_name.get(number.name()).cloned().unwrap_or_default();
+        let fields = numbers.into_iter().map(|number| (number.clone(), noted(&number))).collect();
+        Taken { record, fields }
     });
-    values.collect()
+    fields.collect()
 }
 
-/// A number that tells texts apart.
-pub fn text_value(text: &FixedText) -> u64 {
-    text.text().iter().fold(0, |sum, &byte| sum << 5 ^ u64::from(byte))
-}
-
-fn track_values(track: &Track) -> Vec<(&'static str, usize, u64)> {
-    let mut values = vec![
-        ("track.number", 3, track.number.into()),
-        ("start_lsn", 3, track.start_lsn.0.into()),
-        ("length_sectors", 3, track.length_sectors.into()),
-        ("start_frame", 3, track.times.start_frame.0.into()),
-        ("duration_frames", 3, track.times.duration_frames.0.into()),
-        ("start_flags", 3, track.start_flags.into()),
-        ("duration_flags", 3, track.duration_flags.into()),
-        ("has_isrc", 2, track.has_isrc.into()),
-        ("isrc", 3, text_value(&track.isrc)),
-        ("isrc.len", 3, track.isrc.len.into()),
-        ("has_genre", 2, track.has_genre.into()),
-        ("genre.category", 3, track.genre.category.into()),
-        ("genre.index", 3, track.genre.index.into()),
-    ];
-    for (name, text) in TRACK_TEXTS.iter().zip(track.text) {
-        values.push((name, 3, text.place.into()));
+impl Taken {
+    pub fn fields(&self) -> u64 {
+        self.fields.len() as u64
     }
-    values
+
+    /// The record, how often each field of it was compared at least, its fields, and how many take
+    /// the values asked for.
+    pub fn line(&self) -> String {
+        let Taken { record, fields } = self;
+        let times = fields.iter().map(|(_, field)| field.times).min().unwrap_or(0);
+        let (count, met) = (fields.len(), fields.len() - self.scant().count());
+        format!("{record:<19}{times:>11}{count:>11}{met:>10}")
+    }
+
+    /// A line for each field that does not take the values asked for.
+    pub fn scant(&self) -> impl Iterator<Item = String> {
+        self.fields.iter().filter_map(|(number, field)| scant(number, &field.values))
+    }
 }
 
-macro_rules! locale_names {
-    ($($number:literal)*) => {
-        [$([
-            concat!("locale", $number, ".language"),
-            concat!("locale", $number, ".language.len"),
-            concat!("locale", $number, ".language_code"),
-            concat!("locale", $number, ".charset"),
-        ]),*]
+/// Nothing if a field takes the values asked for.
+fn scant(number: &Number, values: &BTreeSet<u64>) -> Option<String> {
+    let few = number.names.iter().find_map(|name| FEW.iter().find(|few| few.0 == name));
+    let asked = match few {
+        Some((_, few)) if values.iter().eq(*few) => return None,
+        Some((_, few)) => format!("{few:?}"),
+        None if values.len() >= LEAST => return None,
+        None => format!("at least {LEAST}"),
     };
+    Some(format!("{}: takes the values {values:?}, not {asked}", number.name()))
 }
 
-const LOCALES: [[&str; 4]; 10] = locale_names!(0 1 2 3 4 5 6 7 8 9);
+#[test]
+fn every_name_of_few_values_is_a_field() {
+    let records = records::records();
+    let names = || records.iter().flat_map(|record| &record.1).map(Number::name);
+    for (name, _) in FEW {
+        assert_eq!(names().filter(|other| *other == name).count(), 1, "{name}");
+    }
+}
 
-const AREA_TEXTS: [&str; 4] =
-    ["description", "copyright", "description_phonetic", "copyright_phonetic"];
+#[test]
+fn a_field_that_takes_too_few_values_is_named() {
+    use scarletbook::raw::{AreaPointer, Comparison, Lsn};
+    let mut kind = Kind::new("kind", &[]);
+    for number in 0..5 {
+        let [ours, theirs] = [2, 3].map(|second| AreaPointer {
+            toc1_lsn: Lsn(number),
+            toc2_lsn: Lsn(number.min(second)),
+            toc_sectors: number.min(2) as u16,
+        });
+        kind.values.note(&ours, &theirs);
+        let refusal = [0, 1, 2, 8, 9][number as usize];
+        kind.values.note(&Comparison { refusal, equal: 1 }, &Comparison { refusal, equal: 0 });
+    }
+    let taken = taken(&[kind], false);
+    let scant: Vec<_> = taken.iter().flat_map(Taken::scant).collect();
+    let expected = [
+        "area_pointer.toc2_lsn: takes the values {0, 1, 2}, not at least 4",
+        "area_pointer.toc_sectors: takes the values {0, 1, 2}, not at least 4",
+        "comparison.refusal: takes the values {0, 1, 2, 8, 9}, not [0, 1, 2, 8]",
+        "comparison.equal: takes the values {}, not [0, 1]",
+    ];
+    assert_eq!(scant, expected);
+    assert_eq!(taken[0].line(), "area_pointer                 5          3         1");
+}
 
-const TRACK_TEXTS: [&str; 14] = [
-    "title",
-    "performer",
-    "songwriter",
-    "composer",
-    "arranger",
-    "message",
-    "extra_message",
-    "title_phonetic",
-    "performer_phonetic",
-    "songwriter_phonetic",
-    "composer_phonetic",
-    "arranger_phonetic",
-    "message_phonetic",
-    "extra_message_phonetic",
-];
+#[test]
+fn every_record_is_asked_for() {
+    let taken = taken(&[], true);
+    assert!(taken.iter().all(|record| record.scant().count() == record.fields.len()));
+    assert_eq!(taken.len(), records::records().len());
+}

@@ -23,7 +23,7 @@ impl Formats {
             None => DetectAnswer { refusal: 4, sector_format: 0 },
         };
         let question = ("case", case, "bytes", image.len());
-        self.kind.case(&question, expected.refusal, detect_format(image), expected);
+        self.kind.record_case(&question, expected.refusal, detect_format(image), expected);
         for (format, class) in [(0, "format 0"), (1, "format 1"), (2, "format 2")] {
             self.kind.class_if(class, found == Some(format));
         }

@@ -3,6 +3,7 @@
 use super::answer::Answer;
 use crate::guard::{self, Differing, Guarded};
 use crate::tables::write;
+use crate::values::Values;
 use generate::Rng;
 use generate::disc::Disc;
 use scarletbook::raw::{
@@ -111,6 +112,13 @@ impl Memory {
             write(&mut tracks[FIRST_TRACKS[slot]..], &answer.tracks[slot]);
         }
         write(words, &answer.words);
+    }
+
+    /// Notes the track records that a reading wrote.
+    pub fn note_tracks(&self, answer: &Answer, values: &mut Values) {
+        for (first, tracks) in FIRST_TRACKS.into_iter().zip(&answer.tracks) {
+            values.note_all(&self.ours.tracks[first..], tracks);
+        }
     }
 
     /// What the library and the Rust leave of all memory, that which is not lent too.

@@ -9,7 +9,6 @@ pub mod memory;
 pub mod reads;
 mod shapes;
 pub mod texts;
-mod values;
 
 pub use reads::{CODES, READS};
 
@@ -27,10 +26,9 @@ use reads::Reads;
 use shapes::Shapes;
 use std::ops::Range;
 use texts::Texts;
-use values::Values;
 
 /// From so many discs on each class must have a case.
-const SHORT: u64 = 2_000;
+pub const SHORT: u64 = 2_000;
 /// So many discs make a full run: then each warning and refusal comes at least 200 times.
 const FULL: u64 = 100_000;
 const LEAST: u64 = 200;
@@ -41,16 +39,10 @@ pub fn kinds(seed: u64, discs: u64) -> Vec<Kind> {
     let runs = in_threads(discs, |cases| {
         let mut run = Run::new();
         run.cases(seed, cases, &progress);
-        run
+        run.tallies.kinds()
     });
-    let (mut tallies, mut values) = (vec![], Values::new());
-    for run in runs {
-        values.merge(run.values);
-        tallies.push(run.tallies.kinds());
-    }
-    let mut kinds = sums(tallies);
+    let mut kinds = sums(runs);
     reads::finish(&mut kinds);
-    kinds.extend(values.kinds());
     for kind in &mut kinds {
         kind.least = least(kind, discs);
     }
@@ -69,7 +61,6 @@ fn least(kind: &Kind, discs: u64) -> u64 {
 /// What is counted in one thread.
 struct Run {
     tallies: Tallies,
-    values: Values,
     memories: [Memory; 2],
 }
 
@@ -92,7 +83,7 @@ impl Run {
             texts: Texts::new(),
             lies: Lies::new(),
         };
-        Run { tallies, values: Values::new(), memories: [Memory::new(1), Memory::new(78)] }
+        Run { tallies, memories: [Memory::new(1), Memory::new(78)] }
     }
 
     fn cases(&mut self, seed: u64, cases: Range<u64>, progress: &Progress) {
@@ -112,7 +103,6 @@ impl Run {
         let rust = rust.map(|(rust, _)| Answer::of(&disc, rust));
         if let Some(answer) = reads.case(rng, case, &disc, rust, memory) {
             shapes.count(&disc, &answer);
-            self.values.note(&answer);
             texts.cases(rng, &answer, &memory.ours);
             lies.cases(rng, &answer, &mut memory.ours);
         }

@@ -120,7 +120,10 @@ impl Reads {
         let answer = refused.or(rust)?;
         let library = memory.read(disc.format, image, room);
         memory.write(disc, &answer);
-        let [library, rust] = memory.left(library, answer.record());
+        let record = answer.record();
+        self.read.values.note(&library, &record);
+        memory.note_tracks(&answer, &mut self.read.values);
+        let [library, rust] = memory.left(library, record);
         let question = Question { case, format: disc.format, bytes: disc.bytes.len(), room };
         self.read.case(&question, answer.refusal, library, rust);
         self.count(disc, room, &answer);

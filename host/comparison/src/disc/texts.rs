@@ -141,6 +141,7 @@ pub fn decode_case(
     let answer = expected(&mut theirs);
     let rust = Decoded { answer, page: Buffer(theirs.all()) };
     let question = Question { work: work.len(), tracks: tracks.len(), which, page };
+    kind.values.note(&library.answer, &rust.answer);
     kind.case(&question, answer.refusal, library, rust);
     answer
 }
