@@ -18,16 +18,15 @@ use Prim.Native.Nat.{ℕ}
 use lib.Dec.{T}
 use mir.Syntax.{Name, Ty, Width, tyRef, named, imm, Fn}
 use mir.Val.{Val, hasTy, WT}
-use base.Logic.{SProp, ent, via, guardI}
+use base.Logic.{ent, via, guardE}
 use base.Fml.{Lft}
 use prog.Wp.{Tables, WpFn, Closed}
 use prog.Model.{Model}
 use prog.Routine.{Routine, Env}
-use contract.Monad.{fact-use}
 use contract.Running.{Running, GhostRules, tables, tablesOf}
-use types.Kit.{Item, ‵, raw, _⊛_, some, given, later, mean, _$_, _∵_, !, qed, by, move, use1, split, join, pick, learn, await, updating, now as at-once, show, check, done}
-use denote.RattleType.{RattleType, mirs, owns}
-use denote.Laws.{Typed, Is, shows, Lawful, Lawfuls, Are, Ises, showss, owns-show, all-typed}
+use types.Kit.{Item, ‵, raw, _⊛_, some, given, later, mean, _$_, _∵_, !, qed, move, split, join, pick, await, updating, now as at-once, show, check, done}
+use denote.RattleType.{RattleType, mirs}
+use denote.Laws.{Typed, Is, shows, Lawful, Lawfuls, all-typed}
 use denote.Memory.{pointee, lone}
 use denote.Plain.{UInt, uint-lawful}
 use denote.Slice.{sliceTy, MutSlice, ShrSlice, mut-slice-lawful, shr-slice-lawful}
@@ -40,6 +39,7 @@ use denote.Triple.Statement.{Contract}
 use denote.Triple.Spec.{Spec, tripleOf, Meets}
 use denote.Triple.Table.{entered, cited}
 use Rattle.walks.specs.Handing.{Param, as-is, again, tysOf, codeOf, handing, hands-on}
+use Rattle.walks.specs.Values.{AllAre, are-known}
 
 abbrev resultTy : (S : Signature) → Lfts (S .lifetimes) → Ty
 resultTy S κs = lone (typeAt (S .result) κs .mir)
@@ -70,7 +70,7 @@ module _ {M : Type 1} {𝓤 : URA M} {H : Heap 𝓤} {A : Atoms 𝓤} where
   params (shared i κ R ∷ hs) = as-is (sliceTy (tyRef (named i) imm (pointee (R .written)))) ∷ params hs
   params (exclusive i κ R ∷ hs) = again (named i) (pointee (R .written)) (lone (R .mir)) ∷ params hs
 
-  lawfuls : Given 𝓤 H A → (hs : List (Handed 𝓤 H A)) → Lawfuls 𝓤 H A (rows hs)
+  pub lawfuls : Given 𝓤 H A → (hs : List (Handed 𝓤 H A)) → Lawfuls 𝓤 H A (rows hs)
   lawfuls W [] = tt
   lawfuls W (value R law ∷ hs) = (law, lawfuls W hs)
   lawfuls W (shared i κ R ∷ hs) = (shr-slice-lawful 𝓤 H A W (named i) κ R, lawfuls W hs)
@@ -89,20 +89,10 @@ module _ {M : Type 1} (𝓤 : URA M) (H : Heap 𝓤) (A : Atoms 𝓤) (W : Given
     abbrev κs : Lfts (S .lifetimes)
     κs = y .0 .0
 
-    abbrev Rs : List RattleType
-    Rs = typesAt (S .params) κs
-
     -- before the call the arguments are of their types, and after it the answer is of its own
-    args-typed : ent 𝓤 (Stated .pre y) (mean 𝓤 H A (given (Typed (tysOf (params (hs κs))) (Stated .args y)) (raw (Stated .pre y))))
-    args-typed =
-        qed W (((raw (alive 𝓤 H A S κs (y .0 .1)) ⊛ ‵ (owns Rs (y .0 .3) (y .0 .4))) ⊛ raw (c κs (y .0 .3) .requires (y .1))) ∷ []) ∵ split ! $ split ! $ move ! (1 ∷ []) $
-        use1 W (given (Are Rs (Ises Rs) (y .0 .3) (y .0 .4)) (‵ (owns Rs (y .0 .3) (y .0 .4))))
-        (fact-use 𝓤 (Are Rs (Ises Rs) (y .0 .3) (y .0 .4)) (owns-show 𝓤 H A Rs (Ises Rs) (showss 𝓤 H A Rs) (y .0 .3) (y .0 .4)) (λ are. guardI 𝓤 _ _ are)) $ learn ! (λ are.
-        check ! (typed are) $ move ! (1 ∷ 0 ∷ []) $ join ! $ join ! $ done !)
-      where
-        typed : Are Rs (Ises Rs) (y .0 .3) (y .0 .4) → Typed (tysOf (params (hs κs))) (Stated .args y)
-        typed are = subst (λ (τs : List Ty). Typed τs (Stated .args y)) (ap mirs (shape κs .0) ∙ shape κs .1 .0)
-            (all-typed 𝓤 H A Rs (subst (Lawfuls 𝓤 H A) (sym (shape κs .0)) (lawfuls W (hs κs))) (y .0 .3) (y .0 .4) are)
+    args-typed : AllAre 𝓤 H A W S c κs (y .0 .3) (y .0 .4) → Typed (tysOf (params (hs κs))) (Stated .args y)
+    args-typed are = subst (λ (τs : List Ty). Typed τs (Stated .args y)) (ap mirs (shape κs .0) ∙ shape κs .1 .0)
+        (all-typed 𝓤 H A (typesAt (S .params) κs) (subst (Lawfuls 𝓤 H A) (sym (shape κs .0)) (lawfuls W (hs κs))) (y .0 .3) (y .0 .4) are)
 
     answer-typed : (w : Val) → ent 𝓤 (Stated .post y w) (mean 𝓤 H A (later (given (T (hasTy (resultTy S κs) w) × WT w) (raw (Stated .post y w)))))
     answer-typed w =
@@ -117,9 +107,8 @@ module _ {M : Type 1} (𝓤 : URA M) (H : Heap 𝓤) (A : Atoms 𝓤) (W : Given
         typed r is = subst (λ (τs : List Ty). Typed τs (w ∷ [])) (shape κs .1 .1 .0) (law κs .typed r (w ∷ []) is) .0
 
   meets : (𝓣 : Tables 𝓤 H) → Meets 𝓤 H A S (𝓣 .C g) c → Meets 𝓤 H A S (WpFn 𝓤 H (𝓣 .C) (𝓣 .Λ) f) c
-  meets 𝓣 met y =
-      qed W (raw (Stated .pre y) ∷ []) ∵ use1 W (given (Typed (tysOf (params (hs (y .0 .0)))) (Stated .args y)) (raw (Stated .pre y))) (args-typed y) $ learn ! (λ wt.
-      by ! (via 𝓤 _ (met y) (hands-on W 𝓣 (resultTy S (y .0 .0)) (params (hs (y .0 .0))) g (Stated .args y) wt (Stated .post y) (answer-typed y) f (shape (y .0 .0) .1 .1 .1))))
+  meets 𝓣 met y = via 𝓤 _ (are-known 𝓤 H A W S c y) (guardE 𝓤 _ (Stated .pre y) (λ are.
+      via 𝓤 _ (met y) (hands-on W 𝓣 (resultTy S (y .0 .0)) (params (hs (y .0 .0))) g (Stated .args y) (args-typed y are) (Stated .post y) (answer-typed y) f (shape (y .0 .0) .1 .1 .1))))
 
 -- γ has the routines by their keys: k is the function's key and f its MIR, g the callee's key and r its routine
 module _ {M : Type 1} (𝓤 : URA M) (H : Heap 𝓤) (𝓜 : Model 𝓤 H) (𝓖 : GhostRules 𝓤 H) (𝓡 : Running 𝓤 H 𝓜) (S : Signature) (c : Spec 𝓤 S) where

@@ -1,2 +1,3 @@
 pub mod Handing
+pub mod Values
 pub mod Forward
