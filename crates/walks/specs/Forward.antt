@@ -58,13 +58,13 @@ module _ {M : Type 1} {𝓤 : URA M} {H : Heap 𝓤} {A : Atoms 𝓤} where
   struct W D L = value (row D) (LL.lawful D L 𝓤 H A W)
 
   -- their types, what MIR has of them, and their laws
-  abbrev rows : List (Handed 𝓤 H A) → List RattleType
+  abbrev pub rows : List (Handed 𝓤 H A) → List RattleType
   rows [] = []
   rows (value R law ∷ hs) = R ∷ rows hs
   rows (shared i κ R ∷ hs) = ShrSlice (named i) κ R ∷ rows hs
   rows (exclusive i κ R ∷ hs) = MutSlice (named i) κ R ∷ rows hs
 
-  abbrev params : List (Handed 𝓤 H A) → List Param
+  abbrev pub params : List (Handed 𝓤 H A) → List Param
   params [] = []
   params (value R law ∷ hs) = as-is (lone (R .mir)) ∷ params hs
   params (shared i κ R ∷ hs) = as-is (sliceTy (tyRef (named i) imm (pointee (R .written)))) ∷ params hs
