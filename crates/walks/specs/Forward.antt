@@ -23,7 +23,7 @@ use base.Fml.{Lft}
 use prog.Wp.{Tables, WpFn, Closed}
 use prog.Model.{Model}
 use prog.Routine.{Routine, Env}
-use contract.Running.{Running, GhostRules, tables, tablesOf}
+use contract.Running.{Running, GhostRules, tables}
 use types.Kit.{Item, ‵, raw, _⊛_, some, given, later, mean, _$_, _∵_, !, qed, move, split, join, pick, await, updating, now as at-once, show, check, done}
 use denote.RattleType.{RattleType, mirs}
 use denote.Laws.{Typed, Is, shows, Lawful, Lawfuls, all-typed}
@@ -37,9 +37,8 @@ use denote.Signature.{Signature, typeAt, typesAt}
 use denote.Triple.Entry.{Res, alive}
 use denote.Triple.Statement.{Contract}
 use denote.Triple.Spec.{Spec, tripleOf, Meets}
-use denote.Triple.Table.{entered, cited}
 use Rattle.walks.specs.Handing.{Param, as-is, again, tysOf, codeOf, handing, hands-on}
-use Rattle.walks.specs.Values.{AllAre, are-known}
+use Rattle.walks.specs.Statement.{AllAre, are-known, over-one-call}
 
 abbrev resultTy : (S : Signature) → Lfts (S .lifetimes) → Ty
 resultTy S κs = lone (typeAt (S .result) κs .mir)
@@ -110,11 +109,8 @@ module _ {M : Type 1} (𝓤 : URA M) (H : Heap 𝓤) (A : Atoms 𝓤) (W : Given
   meets 𝓣 met y = via 𝓤 _ (are-known 𝓤 H A W S c y) (guardE 𝓤 _ (Stated .pre y) (λ are.
       via 𝓤 _ (met y) (hands-on W 𝓣 (resultTy S (y .0 .0)) (params (hs (y .0 .0))) g (Stated .args y) (args-typed y are) (Stated .post y) (answer-typed y) f (shape (y .0 .0) .1 .1 .1))))
 
--- γ has the routines by their keys: k is the function's key and f its MIR, g the callee's key and r its routine
+-- k is the function's key and f its MIR, g the callee's key and r its routine
 module _ {M : Type 1} (𝓤 : URA M) (H : Heap 𝓤) (𝓜 : Model 𝓤 H) (𝓖 : GhostRules 𝓤 H) (𝓡 : Running 𝓤 H 𝓜) (S : Signature) (c : Spec 𝓤 S) where
   pub forwards : (hs : Lfts (S .lifetimes) → List (Handed 𝓤 H (𝓖 .A))) → ((κs : Lfts (S .lifetimes)) → Lawful 𝓤 H (𝓖 .A) (typeAt (S .result) κs)) → (γ : Env) (k : Name) (f : Fn) → Closed 𝓤 H (tables 𝓤 H 𝓜 𝓡 γ .C) (tables 𝓤 H 𝓜 𝓡 γ .Λ) k f
       → (g : Name) (r : Routine) → γ g ≡ r → ((κs : Lfts (S .lifetimes)) → Shape S κs g f (hs κs)) → Meets 𝓤 H (𝓖 .A) S (𝓡 .run r) c → Meets 𝓤 H (𝓖 .A) S (tables 𝓤 H 𝓜 𝓡 γ .C k) c
-  unfolding tablesOf
-  forwards hs law γ k f closed g r is shape met =
-      entered 𝓤 H (tripleOf 𝓤 H (𝓖 .A) S c) (tables 𝓤 H 𝓜 𝓡 γ .C) (tables 𝓤 H 𝓜 𝓡 γ .Λ) k f closed
-      (meets 𝓤 H (𝓖 .A) (givenOf 𝓤 H 𝓜 𝓖) S c hs law g f shape (tablesOf 𝓤 H 𝓜 (tables 𝓤 H 𝓜 𝓡 γ)) (cited 𝓤 H (tripleOf 𝓤 H (𝓖 .A) S c) 𝓜 𝓡 γ g r is met))
+  forwards hs law γ k f closed g r is shape met = over-one-call 𝓤 H 𝓜 𝓖 𝓡 S c S c γ k f closed g r is met (meets 𝓤 H (𝓖 .A) (givenOf 𝓤 H 𝓜 𝓖) S c hs law g f shape)

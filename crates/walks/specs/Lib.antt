@@ -1,3 +1,3 @@
 pub mod Handing
-pub mod Values
+pub mod Statement
 pub mod Forward

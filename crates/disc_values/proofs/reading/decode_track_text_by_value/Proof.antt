@@ -16,7 +16,7 @@ use prog.Wp.{Heap, WpFn, Tables}
 use ghost.Atoms.{Atoms}
 use contract.Lifetimes.{Lfts}
 use contract.Monad.{Fun}
-use contract.Running.{givenOf, tables, tablesOf}
+use contract.Running.{givenOf}
 use types.Kit.{Given, Item, ‵, raw, _⊛_, some, later, mean, _$_, _∵_, !, qed, move, use1, use2, split, join, pick, learn, rewrite, fsplit, fjoin, frame, await, updating, now as at-once, show, done}
 use types.Run.{look, init, forget, stop, hop, fld, from, load, lit, of-opd, addr, and-then, no-more, assigns, land, returns, enter, alloc1, alloc0, params1, pass1, pass0, free1, free0}
 use types.Part.{whole, sub, look-in, agg}
@@ -37,10 +37,9 @@ use denote.Triple.Statement.{Contract, Triple}
 use denote.Triple.Call.{calls-at}
 use denote.Triple.Entry.{Args, onEntry}
 use denote.Triple.Spec.{Meets, tripleOf}
-use denote.Triple.Table.{entered, cited}
 use Rattle.walks.specs.Forward.{Handed, value, shared, exclusive, number, struct, rows, params, lawfuls}
 use Rattle.walks.specs.Handing.{tysOf}
-use Rattle.walks.specs.Values.{AllAre, spelled}
+use Rattle.walks.specs.Statement.{AllAre, spelled, over-one-call}
 use Rattle.text.specs.declared.decode.DecodeAnswer.{DecodeAnswer}
 use Rattle.text.proofs.decode.DecodeAnswer as D
 use Rattle.text.proofs.decode.DecodeAnswer.Laws as D′
@@ -139,8 +138,7 @@ module _ {M : Type 1} (𝓤 : URA M) (H : Heap 𝓤) (A : Atoms 𝓤) (W : Given
       (λ κs qs b a g are. via 𝓤 _ (fst∗ 𝓤 _ (emp 𝓤)) (walk (κs .0) (κs .1 .0) (qs .0) (qs .1 .0) a are 𝓣 known))
 
 pub decode-track-text-by-value-spec : {M : Type 1} → stated.statement M
-unfolding code.routine tablesOf
+unfolding code.routine
 decode-track-text-by-value-spec 𝓤 H 𝓜 𝓖 𝓡 =
-    entered 𝓤 H (This 𝓤 H (𝓖 .A) (givenOf 𝓤 H 𝓜 𝓖) (𝓜 .mem) (𝓡 .run)) (tables 𝓤 H 𝓜 𝓡 code.env .C) (tables 𝓤 H 𝓜 𝓡 code.env .Λ) key.name code.function (code.unfolded 𝓤 H 𝓜 𝓡)
-    (meets 𝓤 H (𝓖 .A) (givenOf 𝓤 H 𝓜 𝓖) (𝓜 .mem) (𝓡 .run) (tablesOf 𝓤 H 𝓜 (tables 𝓤 H 𝓜 𝓡 code.env))
-    (cited 𝓤 H (Decodes 𝓤 H (𝓖 .A) (givenOf 𝓤 H 𝓜 𝓖) (𝓜 .mem) (𝓡 .run)) 𝓜 𝓡 code.env callee-def.name callee-def.routine code.calls-disc·decode·decode-disc-track-text (callee-thm.met 𝓤 H 𝓜 𝓖 𝓡)))
+    over-one-call 𝓤 H 𝓜 𝓖 𝓡 this.signature (this.spec 𝓤 H (𝓖 .A) (𝓜 .mem) (𝓡 .run)) callee.signature (callee.spec 𝓤 H (𝓖 .A) (𝓜 .mem) (𝓡 .run)) code.env key.name code.function (code.unfolded 𝓤 H 𝓜 𝓡)
+    callee-def.name callee-def.routine code.calls-disc·decode·decode-disc-track-text (callee-thm.met 𝓤 H 𝓜 𝓖 𝓡) (meets 𝓤 H (𝓖 .A) (givenOf 𝓤 H 𝓜 𝓖) (𝓜 .mem) (𝓡 .run))
