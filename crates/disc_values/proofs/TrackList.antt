@@ -8,7 +8,7 @@ use prog.Wp.{Heap}
 use ghost.Atoms.{Atoms}
 use types.Kit.{Given}
 use denote.RattleType.{RattleType}
-use denote.Laws.{Is, Makes}
+use denote.Laws.{Is, Makes, Lawful}
 use denote.Array.{Array, arrayVal, array-vals, array-tells, array-lawful, array-makes}
 use denote.Slice.{Room}
 use denote.Struct.Laws as LL
@@ -37,8 +37,11 @@ pub list-tells : (xs : List Track) (vs : List Val) → Is TrackList xs vs → vs
 list-tells = array-tells R (LL.vals T.the-type T′.the-laws) (LL.tells T.the-type T′.the-laws) 510
 
 module _ {M : Type 1} (𝓤 : URA M) (H : Heap 𝓤) (A : Atoms 𝓤) (W : Given 𝓤 H A) where
+  pub list-lawful : Lawful 𝓤 H A TrackList
+  list-lawful = array-lawful 𝓤 H A W R (LL.lawful T.the-type T′.the-laws 𝓤 H A W) 510
+
   pub list-typed : (xs : List Track) (v : Val) → Is TrackList xs (v ∷ []) → Holds (hasTy (array-ty R 510) v) × WT v
-  list-typed xs v is = array-lawful 𝓤 H A W R (LL.lawful T.the-type T′.the-laws 𝓤 H A W) 510 .typed xs (v ∷ []) is .0
+  list-typed xs v is = list-lawful .typed xs (v ∷ []) is .0
 
   pub list-makes : Makes 𝓤 H A TrackList (Is TrackList)
   list-makes = array-makes 𝓤 H A W R (LL.makes T.the-type T′.the-plain 𝓤 H A) 510

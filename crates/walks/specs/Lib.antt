@@ -1,0 +1,3 @@
+pub mod Handing
+pub mod Statement
+pub mod Forward
