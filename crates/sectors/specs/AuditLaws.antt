@@ -30,7 +30,7 @@ resultOf a =
     (cond (eqb (a .sound) 1) audit.Sound audit.Unsound)))
 
 found-again : (r : AuditResult) → resultOf (answerOf r) ≡ r
-unfolding answerOf
+unfolding answerOf resultOf
 found-again audit.Sound = refl
 found-again audit.Unsound = refl
 found-again audit.ForeignFormat = refl
