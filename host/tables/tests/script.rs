@@ -219,34 +219,50 @@ fn a_copy_of_a_built_tree_is_built() {
     copy.check_noticed("a change of the copy");
 }
 
+/// Requires that a run ends with an error and prints nothing.
+fn check_stopped(tree: &Tree, error: &str) {
+    let stopped = tree.run(&["IMAGE"]);
+    assert_eq!((stopped.status, &*stopped.out), (Some(2), ""));
+    assert!(stopped.error.ends_with(&format!("tables: {error}\n")), "{}", stopped.error);
+}
+
 #[test]
 fn sources_that_change_while_it_is_built_are_noticed() {
     let tree = Tree::new("meanwhile");
-    let error = "tables: the sources changed while the command was built: run it again\n";
-    for file in ["crates/scarletbook/src/b.rt", "host/tables/src/main.rs"] {
+    let changed = "the sources changed while the command was built: run it again";
+    for (moment, file, error) in [
+        ("at-build", "crates/scarletbook/src/b.rt", changed),
+        ("at-build", "host/tables/src/main.rs", changed),
+        ("at-staticlib", "crates/sectors/src/a.rt", "the library could not be built"),
+    ] {
         tree.write(file, "before\n");
-        tree.write("while-built", &format!("echo during >{file}"));
-        let stopped = tree.run(&["IMAGE"]);
-        assert_eq!((stopped.status, &*stopped.out), (Some(2), ""));
-        assert!(stopped.error.ends_with(error), "{}", stopped.error);
-        fs::remove_file(tree.path("while-built")).expect("it was written");
+        tree.write(moment, &format!("echo during >{file}; rm {moment}"));
+        check_stopped(&tree, error);
+        assert!(!tree.path(moment).exists());
         tree.check_noticed(file);
     }
 }
 
 #[test]
+fn a_library_whose_sources_changed_before_the_command_is_built_is_proved_again() {
+    let tree = Tree::new("between");
+    // The version is asked for before the library is proved, and then for the sums of all sources.
+    let change = "echo during >crates/sectors/src/a.rt; rm at-version";
+    tree.write("at-version", &format!("if grep -q static asked; then {change}; fi"));
+    let printed = tree.run(&["IMAGE"]);
+    assert!(!tree.path("at-version").exists());
+    assert_eq!((printed.status, printed.out), (Some(0), tree.sources()));
+}
+
+#[test]
 fn what_cannot_be_built_is_not_run() {
     let tree = Tree::built("unbuilt");
-    let fails = |error: &str| {
-        let stopped = tree.run(&["IMAGE"]);
-        assert_eq!((stopped.status, &*stopped.out), (Some(2), ""));
-        assert!(stopped.error.ends_with(&format!("tables: {error}\n")), "{}", stopped.error);
-    };
+    let fails = |error| check_stopped(&tree, error);
     tree.write("host/tables/src/main.rs", "other\n");
-    tree.write("while-built", "exit 1");
+    tree.write("at-build", "exit 1");
     fails("the command could not be built");
     fails("the command could not be built");
-    tree.write("while-built", "");
+    tree.write("at-build", "");
     tree.write("crates/sectors/src/a.rt", "other\n");
     tree.write("unproved", "");
     fails("the library could not be built");
@@ -265,7 +281,7 @@ fn two_runs_at_once_build_it_once() {
         eprintln!("left out, for want of the command flock");
         return;
     }
-    tree.write("while-built", "sleep 0.3");
+    tree.write("at-build", "sleep 0.3");
     let both = tree.shell(&["bin", "plain"], "./tables a >first & ./tables b >second; wait");
     assert_eq!(both.status, Some(0));
     for printed in ["first", "second"] {
