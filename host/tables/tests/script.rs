@@ -235,22 +235,26 @@ fn sources_that_change_while_it_is_built_are_noticed() {
         ("at-build", "host/tables/src/main.rs", changed),
         ("at-staticlib", "crates/sectors/src/a.rt", "the library could not be built"),
     ] {
-        tree.write(file, "before\n");
-        tree.write(moment, &format!("echo during >{file}; rm {moment}"));
-        check_stopped(&tree, error);
-        assert!(!tree.path(moment).exists());
-        tree.check_noticed(file);
+        // The second time the text is again what it was.
+        for after in ["after", "before"] {
+            tree.write(file, "before\n");
+            let change = format!("echo during >{file}; echo {after} >{file}");
+            tree.write(moment, &format!("{change}; rm {moment}"));
+            check_stopped(&tree, error);
+            assert!(!tree.path(moment).exists());
+            tree.check_noticed(file);
+        }
     }
 }
 
 #[test]
 fn a_library_whose_sources_changed_before_the_command_is_built_is_proved_again() {
     let tree = Tree::new("between");
-    // The version is asked for before the library is proved, and then for the sums of all sources.
-    let change = "echo during >crates/sectors/src/a.rt; rm at-version";
-    tree.write("at-version", &format!("if grep -q static asked; then {change}; fi"));
+    let change = "echo during >crates/sectors/src/a.rt; rm at-find";
+    let is_built = "[ -e host/target/archive/sum ]";
+    tree.write("at-find", &format!("if {is_built}; then {change}; fi"));
     let printed = tree.run(&["IMAGE"]);
-    assert!(!tree.path("at-version").exists());
+    assert!(!tree.path("at-find").exists());
     assert_eq!((printed.status, printed.out), (Some(0), tree.sources()));
 }
 
