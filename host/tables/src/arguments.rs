@@ -86,11 +86,12 @@ impl Arguments {
         match name {
             "--dump" => self.set_form(Form::Dump),
             "--json" => self.set_form(Form::Json),
-            _ => {
+            "--format" => {
                 let next = || rest.next().map(|next| next.to_string_lossy().into_owned());
                 let number = value.or_else(next).ok_or("--format needs 0, 1 or 2")?;
                 self.set_format(&number)
             }
+            _ => unreachable!("every option of a command is set here"),
         }
     }
 
@@ -177,6 +178,17 @@ mod tests {
         }
         assert_eq!(parse("-- audit"), run(LISTED, None, "audit"));
         assert_eq!(parse("audit -- audit"), run(Task::Audit, None, "audit"));
+    }
+
+    #[test]
+    fn every_option_of_a_command_is_taken() {
+        for command in COMMANDS.iter().chain([&LISTING]) {
+            let word = if command == &LISTING { "" } else { command.word };
+            for option in command.options {
+                let parsed = parse(&format!("{word} {option} 0"));
+                assert!(matches!(parsed, Ok(Request::Run(_))), "{word} {option}");
+            }
+        }
     }
 
     #[test]
