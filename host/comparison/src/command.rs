@@ -1,4 +1,4 @@
-//! The command `tables --dump` over discs in files, beside the Rust's dump.
+//! The command `tables --dump` over discs in files, beside the Rust's dump: what it prints and says, and its exit status.
 
 use crate::disc::answer::read;
 use crate::disc::dump::{dump, refusal};
@@ -18,6 +18,22 @@ use std::process::Command;
 
 /// From so many discs on each class must have a case.
 const SHORT: u64 = 500;
+
+/// The words of the refusals of a disc, by the document.
+const WORDS: [(u8, &str); 5] = [
+    (1, "foreign format"),
+    (3, "cut master"),
+    (4, "not Scarlet Book"),
+    (5, "newer edition"),
+    (6, "silent disc"),
+];
+
+/// What a run of the command gave.
+struct Ran {
+    out: String,
+    error: String,
+    status: Option<i32>,
+}
 
 struct Run {
     with_format: Kind,
@@ -54,7 +70,8 @@ impl Run {
         let refusals = ["accepted", "refusal 3", "refusal 4", "refusal 5", "refusal 6"];
         let formats = ["format 0", "format 1", "format 2"];
         let given = [&refusals[..], &formats, &["refusal 1"]].concat();
-        let found = [&refusals[..], &formats, &["another than given", "no format found"]].concat();
+        let none = ["no format found", "refusal 3 without a format", "refusal 4 without a format"];
+        let found = [&refusals[..], &formats, &["another than given"], &none].concat();
         Run {
             with_format: Kind::new("tables --format", &given),
             without_format: Kind::new("tables", &found),
@@ -78,51 +95,52 @@ impl Run {
     fn given(&mut self, case: u64, disc: &Disc) -> io::Result<()> {
         let rust = read(disc);
         let format = disc.format.to_string();
-        let answer = self.answer(&["--format", &format])?;
-        let refusal = refusal(rust.as_ref());
-        compare(&mut self.with_format, (case, disc), refusal, &answer, &dump(rust.as_ref()));
+        let ours = self.run(&["--format", &format])?;
+        let theirs = self.expected(refusal(rust.as_ref()), dump(rust.as_ref()));
+        compare(&mut self.with_format, (case, disc), refusal(rust.as_ref()), &ours, &theirs);
         Ok(())
     }
 
-    /// Without a format: that which the Rust's `Image::open` finds, or refusal 4.
+    /// Without a format: that which the Rust's `Image::open` finds, or else format 0.
     fn found(&mut self, case: u64, mut disc: Disc) -> io::Result<()> {
-        let answer = self.answer(&[])?;
+        let ours = self.run(&[])?;
         let given = disc.format;
         let format = detected(&disc.bytes).map(format_number);
-        disc.format = format.unwrap_or(u32::MAX);
-        let (refusal, expected) = match format {
-            Some(_) => {
-                let rust = read(&disc);
-                (refusal(rust.as_ref()), dump(rust.as_ref()))
-            }
-            None => (4, "refused 4\n".to_string()),
-        };
+        disc.format = format.unwrap_or(0);
+        let rust = read(&disc);
+        let refusal = refusal(rust.as_ref());
+        let theirs = self.expected(refusal, dump(rust.as_ref()));
         let kind = &mut self.without_format;
-        compare(kind, (case, &disc), refusal, &answer, &expected);
+        compare(kind, (case, &disc), refusal, &ours, &theirs);
         kind.class_if("no format found", format.is_none());
+        kind.class_if("refusal 3 without a format", format.is_none() && refusal == 3);
+        kind.class_if("refusal 4 without a format", format.is_none() && refusal == 4);
         kind.class_if("another than given", format.is_some_and(|format| format != given));
         Ok(())
     }
 
-    /// What the command prints, and its exit status.
-    fn answer(&self, words: &[&str]) -> io::Result<(String, Option<i32>)> {
+    fn run(&self, words: &[&str]) -> io::Result<Ran> {
         let output =
             Command::new(&self.tables).arg("--dump").args(words).arg(&self.file).output()?;
-        Ok((String::from_utf8_lossy(&output.stdout).into_owned(), output.status.code()))
+        let text = |bytes: &[u8]| String::from_utf8_lossy(bytes).into_owned();
+        let (out, error) = (text(&output.stdout), text(&output.stderr));
+        Ok(Ran { out, error, status: output.status.code() })
+    }
+
+    /// What a run must give: a refusal names the image, and has its word.
+    fn expected(&self, refusal: u8, out: String) -> Ran {
+        let word = WORDS.iter().find(|(number, _)| *number == refusal);
+        let line = |(number, word)| format!("{}: refused {number}: {word}\n", self.file.display());
+        let error = word.copied().map(line).unwrap_or_default();
+        Ran { out, error, status: Some(i32::from(refusal != 0)) }
     }
 }
 
-fn compare(
-    kind: &mut Kind,
-    (case, disc): (u64, &Disc),
-    refusal: u8,
-    answer: &(String, Option<i32>),
-    expected: &str,
-) {
-    let (printed, status) = answer;
-    let [ours, theirs] = differing(printed, expected);
+fn compare(kind: &mut Kind, (case, disc): (u64, &Disc), refusal: u8, ours: &Ran, theirs: &Ran) {
+    let [our_line, their_line] = differing(&ours.out, &theirs.out);
     let question = ("case", case, "format", disc.format, "bytes", disc.bytes.len());
-    kind.case(&question, refusal, (*status, ours), (Some(i32::from(refusal != 0)), theirs));
+    let answer = |ran: &Ran, line| (ran.status, ran.error.clone(), line);
+    kind.case(&question, refusal, answer(ours, our_line), answer(theirs, their_line));
     for (format, class) in [(0, "format 0"), (1, "format 1"), (2, "format 2")] {
         kind.class_if(class, refusal == 0 && disc.format == format);
     }

@@ -1,88 +1,105 @@
 //! The arguments of the command.
 
+use crate::commands::{Command, Form, LISTING, Task};
 use std::ffi::OsString;
 use std::path::PathBuf;
 
-pub const USAGE: &str =
-    "usage: tables [--dump | --json | --audit | --fingerprints] [--format N] [IMAGE]";
-
-pub const HELP: &str = "\
-usage: tables [--dump | --json | --audit | --fingerprints] [--format N] [IMAGE]
-
-Lists the tables of contents of an SACD image: titles, areas, tracks, warnings.
-IMAGE is a file or a block device. Without it a small sample disc is listed.
-
-  --dump          prints the canonical dump instead: a line for each field
-  --json          the same data as JSON
-  --audit         the address of each sector whose header is not sound, and the
-                  counts; format 2 alone has headers
-  --fingerprints  the address and the fingerprint (FNV-1a) of each sector
-  --format N      the bytes of a stored sector: 0 for 2,048, 1 for 2,054, 2 for
-                  2,064; without it they are found out
-  --help          prints this text
-
-Exit status: 0 accepted, 1 refused or a header that is not sound, 2 for a wrong
-argument or a file that cannot be read or written.
-";
-
 /// What is asked for.
-#[derive(Clone, Copy, Debug, Default, PartialEq, Eq)]
-pub enum Mode {
-    #[default]
-    Listing,
-    Dump,
-    Json,
-    Audit,
-    Fingerprints,
-    Help,
+#[derive(Debug, PartialEq, Eq)]
+pub enum Request {
+    Help(&'static Command),
+    Version,
+    Run(Arguments),
 }
 
-#[derive(Clone, Debug, Default, PartialEq, Eq)]
+#[derive(Debug, PartialEq, Eq)]
 pub struct Arguments {
-    pub mode: Mode,
+    pub command: &'static Command,
+    pub task: Task,
     /// Any number; the library refuses foreign ones.
     pub format: Option<u32>,
     pub image: Option<PathBuf>,
 }
 
+/// What is wrong with the arguments, and of which command.
+#[derive(Debug, PartialEq, Eq)]
+pub struct Wrong {
+    pub why: String,
+    pub command: &'static Command,
+}
+
+impl Request {
+    /// What the arguments behind the program's name ask for. The first may be a command's word;
+    /// `--help` and `--version` stand anywhere before `--`, whatever else is there.
+    pub fn parse(arguments: impl IntoIterator<Item = OsString>) -> Result<Self, Wrong> {
+        let mut rest: Vec<OsString> = arguments.into_iter().collect();
+        let word = rest.first().and_then(|first| first.to_str());
+        let command = word.and_then(Command::of_word);
+        if command.is_some() {
+            rest.remove(0);
+        }
+        let command = command.unwrap_or(&LISTING);
+        for argument in rest.iter().take_while(|argument| *argument != "--") {
+            match argument.to_str() {
+                Some("--help" | "-h") => return Ok(Request::Help(command)),
+                Some("--version") => return Ok(Request::Version),
+                _ => {}
+            }
+        }
+        let parsed = Arguments::parse(command, rest);
+        parsed.map(Request::Run).map_err(|why| Wrong { why, command })
+    }
+}
+
 impl Arguments {
-    /// The arguments behind the command's name, or what is wrong with them.
-    pub fn parse(arguments: impl IntoIterator<Item = OsString>) -> Result<Self, String> {
-        let mut parsed = Arguments::default();
+    /// The arguments of a command, or what is wrong with them.
+    fn parse(command: &'static Command, arguments: Vec<OsString>) -> Result<Self, String> {
+        let mut parsed = Arguments { command, task: command.task, format: None, image: None };
         let mut rest = arguments.into_iter();
         let mut options = true;
         while let Some(argument) = rest.next() {
             match argument.to_str() {
                 Some("--") if options => options = false,
-                Some("--help" | "-h") if options => {
-                    return Ok(Arguments { mode: Mode::Help, ..parsed });
+                Some(option) if options && option.starts_with('-') => {
+                    parsed.set_option(option, &mut rest)?;
                 }
-                Some("--format") if options => {
-                    let number = rest.next().ok_or("--format needs 0, 1 or 2")?;
-                    parsed.set_format(&number.to_string_lossy())?;
+                Some(word) if options && Command::of_word(word).is_some() => {
+                    return Err(format!("{word} is a command, and stands first; a file: ./{word}"));
                 }
-                Some(option) if options && option.starts_with('-') => parsed.set_option(option)?,
                 _ => parsed.set_image(argument)?,
             }
         }
         Ok(parsed)
     }
 
-    fn set_option(&mut self, option: &str) -> Result<(), String> {
-        if let Some(number) = option.strip_prefix("--format=") {
-            return self.set_format(number);
-        }
-        let mode = match option {
-            "--dump" => Mode::Dump,
-            "--json" => Mode::Json,
-            "--audit" => Mode::Audit,
-            "--fingerprints" => Mode::Fingerprints,
-            _ => return Err(format!("unknown option {option}")),
+    /// Sets an option; its value stands behind `=`, or comes next.
+    fn set_option(
+        &mut self,
+        option: &str,
+        rest: &mut impl Iterator<Item = OsString>,
+    ) -> Result<(), String> {
+        let (name, value) = match option.split_once('=') {
+            Some((name @ "--format", value)) => (name, Some(value.to_owned())),
+            _ => (option, None),
         };
-        if self.mode != Mode::Listing {
-            return Err("only one of --dump, --json, --audit and --fingerprints".to_owned());
+        check_option(self.command, name)?;
+        match name {
+            "--dump" => self.set_form(Form::Dump),
+            "--json" => self.set_form(Form::Json),
+            "--format" => {
+                let next = || rest.next().map(|next| next.to_string_lossy().into_owned());
+                let number = value.or_else(next).ok_or("--format needs 0, 1 or 2")?;
+                self.set_format(&number)
+            }
+            _ => unreachable!("every option of a command is set here"),
         }
-        self.mode = mode;
+    }
+
+    fn set_form(&mut self, form: Form) -> Result<(), String> {
+        if self.task != self.command.task {
+            return Err("only one of --dump and --json".to_owned());
+        }
+        self.task = Task::List(form);
         Ok(())
     }
 
@@ -96,57 +113,150 @@ impl Arguments {
     }
 
     fn set_image(&mut self, image: OsString) -> Result<(), String> {
-        match self.image.replace(image.into()) {
-            None => Ok(()),
-            Some(_) => Err("only one image".to_owned()),
+        match &self.image {
+            None => self.image = Some(image.into()),
+            Some(first) => {
+                let (first, second) = (first.display(), image.display());
+                return Err(format!("only one image, not {first} and {second}"));
+            }
         }
+        Ok(())
+    }
+}
+
+/// What is wrong if the command does not take the option.
+fn check_option(command: &Command, option: &str) -> Result<(), String> {
+    if command.options.contains(&option) {
+        return Ok(());
+    }
+    let wrong = format!("{} has no option {option}", command.word);
+    match option.strip_prefix("--").and_then(Command::of_word) {
+        Some(named) => Err(format!("{wrong}; the command is: tables {}", named.word)),
+        None => Err(wrong),
     }
 }
 
 #[cfg(test)]
 mod tests {
     use super::*;
+    use crate::commands::COMMANDS;
+    use std::path::Path;
 
-    fn parse(line: &str) -> Result<Arguments, String> {
-        Arguments::parse(line.split_whitespace().map(OsString::from))
+    const LISTED: Task = Task::List(Form::Listing);
+
+    fn parse(line: &str) -> Result<Request, Wrong> {
+        Request::parse(line.split_whitespace().map(OsString::from))
     }
 
-    fn arguments(mode: Mode, format: Option<u32>, image: &str) -> Result<Arguments, String> {
-        Ok(Arguments { mode, format, image: Some(image.into()) })
+    /// A run over an image; over none if that is empty.
+    fn run(task: Task, format: Option<u32>, image: &str) -> Result<Request, Wrong> {
+        let command = COMMANDS.iter().find(|command| command.task == task).unwrap_or(&LISTING);
+        let image = Some(image.into()).filter(|image| image != Path::new(""));
+        Ok(Request::Run(Arguments { command, task, format, image }))
     }
 
     #[test]
     fn options_stand_before_or_behind_the_image() {
-        assert_eq!(parse(""), Ok(Arguments::default()));
-        assert_eq!(parse("a.iso"), arguments(Mode::Listing, None, "a.iso"));
-        assert_eq!(parse("--dump --format 2 a"), arguments(Mode::Dump, Some(2), "a"));
+        assert_eq!(parse(""), run(LISTED, None, ""));
+        assert_eq!(parse("a.iso"), run(LISTED, None, "a.iso"));
+        assert_eq!(parse("--dump --format 2 a"), run(Task::List(Form::Dump), Some(2), "a"));
         assert_eq!(
             parse("a --format=4294967295 --json"),
-            arguments(Mode::Json, Some(u32::MAX), "a")
+            run(Task::List(Form::Json), Some(u32::MAX), "a")
         );
-        assert_eq!(parse("--audit a --format 1"), arguments(Mode::Audit, Some(1), "a"));
-        assert_eq!(
-            parse("--fingerprints -- --dump"),
-            arguments(Mode::Fingerprints, None, "--dump")
-        );
-        assert_eq!(parse("--dump --help --what").map(|parsed| parsed.mode), Ok(Mode::Help));
+        assert_eq!(parse("-- --dump"), run(LISTED, None, "--dump"));
+    }
+
+    #[test]
+    fn a_command_stands_first() {
+        assert_eq!(parse("audit a --format 1"), run(Task::Audit, Some(1), "a"));
+        assert_eq!(parse("fingerprints --format=2 a"), run(Task::Fingerprints, Some(2), "a"));
+        assert_eq!(parse("audit"), run(Task::Audit, None, ""));
+        for image in ["./audit", "audit.iso", "audi", "Audit"] {
+            assert_eq!(parse(image), run(LISTED, None, image));
+            assert_eq!(parse(&format!("audit {image}")), run(Task::Audit, None, image));
+        }
+        assert_eq!(parse("-- audit"), run(LISTED, None, "audit"));
+        assert_eq!(parse("audit -- audit"), run(Task::Audit, None, "audit"));
+    }
+
+    #[test]
+    fn every_option_of_a_command_is_taken() {
+        for command in COMMANDS.iter().chain([&LISTING]) {
+            let word = if command == &LISTING { "" } else { command.word };
+            for option in command.options {
+                let parsed = parse(&format!("{word} {option} 0"));
+                assert!(matches!(parsed, Ok(Request::Run(_))), "{word} {option}");
+            }
+        }
+    }
+
+    #[test]
+    fn help_and_the_version_stand_anywhere_before_the_dashes() {
+        for line in ["--help", "-h", "--what --help", "a b --help", "--format --help --version"] {
+            assert_eq!(parse(line), Ok(Request::Help(&LISTING)), "{line}");
+        }
+        for command in &COMMANDS {
+            for line in ["--help", "a --help", "--dump -h"] {
+                let line = format!("{} {line}", command.word);
+                assert_eq!(parse(&line), Ok(Request::Help(command)), "{line}");
+            }
+        }
+        assert_eq!(parse("--version"), Ok(Request::Version));
+        assert_eq!(parse("audit --version --help"), Ok(Request::Version));
+        assert_eq!(parse("-- --help"), run(LISTED, None, "--help"));
+    }
+
+    fn check_wrong(command: &'static Command, lines: &[(&str, &str)]) {
+        for (line, why) in lines {
+            assert_eq!(parse(line), Err(Wrong { why: (*why).to_owned(), command }), "{line}");
+        }
     }
 
     #[test]
     fn what_is_wrong_is_said() {
-        for (line, wrong) in [
-            ("--what", "unknown option --what"),
-            ("-d a", "unknown option -d"),
-            ("--dump --json a", "only one of --dump, --json, --audit and --fingerprints"),
-            ("a b", "only one image"),
-            ("a -- b", "only one image"),
-            ("--format", "--format needs 0, 1 or 2"),
-            ("--format x a", "--format needs 0, 1 or 2, not x"),
-            ("--format=-1 a", "--format needs 0, 1 or 2, not -1"),
-            ("--format 4294967296 a", "--format needs 0, 1 or 2, not 4294967296"),
-            ("--format 0 --format 0 a", "only one --format"),
-        ] {
-            assert_eq!(parse(line), Err(wrong.to_owned()), "{line}");
+        check_wrong(
+            &LISTING,
+            &[
+                ("--what", "tables has no option --what"),
+                ("-d a", "tables has no option -d"),
+                ("--dump=a", "tables has no option --dump=a"),
+                ("--dump --json a", "only one of --dump and --json"),
+                ("a b", "only one image, not a and b"),
+                ("a -- b", "only one image, not a and b"),
+                ("fingerprint a", "only one image, not fingerprint and a"),
+                ("--format", "--format needs 0, 1 or 2"),
+                ("--format x a", "--format needs 0, 1 or 2, not x"),
+                ("--format=-1 a", "--format needs 0, 1 or 2, not -1"),
+                ("--format 4294967296 a", "--format needs 0, 1 or 2, not 4294967296"),
+                ("--format 0 --format 0 a", "only one --format"),
+                ("a audit", "audit is a command, and stands first; a file: ./audit"),
+                ("--format 2 audit", "audit is a command, and stands first; a file: ./audit"),
+            ],
+        );
+        check_wrong(
+            &COMMANDS[0],
+            &[
+                ("audit --dump a", "audit has no option --dump"),
+                ("audit a b", "only one image, not a and b"),
+                ("audit audit", "audit is a command, and stands first; a file: ./audit"),
+                (
+                    "audit --fingerprints a",
+                    "audit has no option --fingerprints; the command is: tables fingerprints",
+                ),
+            ],
+        );
+    }
+
+    #[test]
+    fn the_options_that_became_commands_name_them() {
+        for command in &COMMANDS {
+            let word = command.word;
+            let why = format!("tables has no option --{word}; the command is: tables {word}");
+            check_wrong(
+                &LISTING,
+                &[(&format!("--{word} a"), &why), (&format!("a --{word}"), &why)],
+            );
         }
     }
 }

@@ -244,11 +244,8 @@ mod tests {
     }
 
     #[test]
-    fn an_image_that_is_refused_unread_has_its_refusal_alone() {
-        let refused = json(Reading::refused(Refusal::NotScarletBook));
-        assert_eq!(
-            refused,
-            "{\n  \"refused\": {\"number\": 4, \"word\": \"not Scarlet Book\"}\n}\n"
-        );
+    fn an_image_that_is_refused_has_its_refusal_alone() {
+        let refused = json(Reading::new(0, &[], &Disc::read(0_u32, &[])));
+        assert_eq!(refused, "{\n  \"refused\": {\"number\": 3, \"word\": \"cut master\"}\n}\n");
     }
 }

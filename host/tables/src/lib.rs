@@ -4,6 +4,7 @@
 #![deny(unsafe_code)]
 
 pub mod arguments;
+pub mod commands;
 pub mod dump;
 pub mod fields;
 pub mod json;

@@ -1,4 +1,4 @@
-//! `tables`: lists the tables of contents of an SACD image.
+//! `tables`: lists the tables of contents of an SACD image, and does what `commands` has.
 
 #![deny(unsafe_code)]
 
@@ -7,54 +7,56 @@ use std::fs;
 use std::io::{self, ErrorKind, IsTerminal, Write};
 use std::path::{Path, PathBuf};
 use std::process::ExitCode;
-use tables::arguments::{Arguments, HELP, Mode, USAGE};
+use tables::arguments::{Arguments, Request, Wrong};
+use tables::commands::{Form, Task};
 use tables::dump::dump_reading;
 use tables::json::json;
 use tables::listing::{listing, printable};
 use tables::map::{Map, report_faults};
 use tables::reading::Reading;
-use tables::report::{ERASE, Report, write_error};
+use tables::report::{ERASE, Report, StandardReport, write_error};
 use tables::sample;
 use tables::sectors::Sectors;
 
 /// Names the file that the sample disc is written to.
 const SAMPLE: &str = "TABLES_SAMPLE";
+/// The release; `./tables` has the commit too.
+const VERSION: &str = concat!("tables ", env!("CARGO_PKG_VERSION"), "\n");
 
-/// What was found, by the exit status.
+/// What was found.
 enum Answer {
     Accepted,
     Unsound,
     Refused(Refusal),
+    /// No format was given or found, and none is taken instead.
+    NoFormat(Refusal),
 }
 
 /// What kept the command from an answer.
 enum Failure {
-    Usage(String),
+    Usage(Wrong),
     File(PathBuf, io::Error),
     Output(io::Error),
 }
 
 fn main() -> ExitCode {
-    let arguments = Arguments::parse(std::env::args_os().skip(1)).map_err(Failure::Usage);
-    match arguments.and_then(|arguments| run(&arguments)) {
-        Ok(Answer::Accepted) => ExitCode::SUCCESS,
-        Ok(Answer::Unsound) => ExitCode::from(1),
-        Ok(Answer::Refused(refusal)) => {
-            write_error(format_args!("{refusal}\n"));
-            ExitCode::from(1)
-        }
-        Err(failure) => {
-            failure.tell();
-            ExitCode::from(2)
-        }
-    }
+    let request = Request::parse(std::env::args_os().skip(1)).map_err(Failure::Usage);
+    let status = request.and_then(|request| match request {
+        Request::Help(command) => print(command.help).map(|()| 0),
+        Request::Version => print(VERSION).map(|()| 0),
+        Request::Run(arguments) => run(&arguments),
+    });
+    ExitCode::from(status.unwrap_or_else(|failure| {
+        failure.tell();
+        2
+    }))
 }
 
 impl Failure {
     fn tell(&self) {
         match self {
-            Failure::Usage(wrong) => {
-                write_error(format_args!("tables: {}\n{USAGE}\n", printable(wrong)));
+            Failure::Usage(Wrong { why, command }) => {
+                write_error(format_args!("tables: {}\n{}\n", printable(why), command.usage()));
             }
             Failure::File(path, error) => {
                 write_error(format_args!("tables: {}: {error}\n", name(path)));
@@ -68,73 +70,108 @@ impl Failure {
     }
 }
 
-fn run(arguments: &Arguments) -> Result<Answer, Failure> {
-    if arguments.mode == Mode::Help {
-        return print(HELP).map(|()| Answer::Accepted);
+impl Answer {
+    /// Says why an image is refused.
+    fn tell(&self, path: &Path) {
+        let name = name(path);
+        match self {
+            Answer::Accepted | Answer::Unsound => {}
+            Answer::Refused(refusal) => write_error(format_args!("{name}: {refusal}\n")),
+            Answer::NoFormat(refusal) => {
+                let advice = "no format is found in it; --format 2 reads it all the same";
+                write_error(format_args!("{name}: {refusal}\ntables: {name}: {advice}\n"));
+            }
+        }
     }
-    let path = match &arguments.image {
-        Some(path) => path.clone(),
-        None => make_sample(arguments.mode)?,
-    };
-    let map = Map::open(&path).map_err(|error| Failure::File(path.clone(), error))?;
-    report_faults(fault(&path));
-    let detected = || SectorFormat::detect(map.bytes()).map(SectorFormat::number);
-    match arguments.format.map_or_else(detected, Ok) {
-        Ok(format) => answer(arguments.mode, format, &map),
-        Err(refusal) => print_reading(arguments.mode, Reading::refused(refusal)),
-    }
-}
 
-fn answer(mode: Mode, format: u32, map: &Map) -> Result<Answer, Failure> {
-    match mode {
-        Mode::Audit | Mode::Fingerprints => each_sector(mode, format, map).map_err(Failure::Output),
-        _ => {
-            let read = Disc::read(format, map.bytes());
-            print_reading(mode, Reading::new(format, map.bytes(), &read))
+    fn status(&self) -> u8 {
+        match self {
+            Answer::Accepted => 0,
+            Answer::Unsound | Answer::Refused(_) | Answer::NoFormat(_) => 1,
         }
     }
 }
 
-fn print_reading(mode: Mode, reading: Reading) -> Result<Answer, Failure> {
-    match mode {
-        Mode::Dump => print(&dump_reading(reading))?,
-        Mode::Json => print(&json(reading))?,
-        Mode::Listing => print(&listing(reading))?,
-        Mode::Audit | Mode::Fingerprints | Mode::Help => {}
+/// The exit status for an image that could be read.
+fn run(arguments: &Arguments) -> Result<u8, Failure> {
+    let path = match &arguments.image {
+        Some(path) => path.clone(),
+        None => make_sample(arguments)?,
+    };
+    let map = Map::open(&path).map_err(|error| Failure::File(path.clone(), error))?;
+    report_faults(fault(&path));
+    let answer = answer(arguments, &map)?;
+    answer.tell(&path);
+    Ok(answer.status())
+}
+
+fn answer(arguments: &Arguments, map: &Map) -> Result<Answer, Failure> {
+    let detected = || SectorFormat::detect(map.bytes()).map(SectorFormat::number);
+    let format = arguments.format.map_or_else(detected, Ok);
+    match arguments.task {
+        Task::List(form) => list(form, format.unwrap_or(SectorFormat::Plain.number()), map),
+        Task::Audit => each_sector(format, map, audit),
+        Task::Fingerprints => each_sector(format, map, fingerprints),
     }
+}
+
+fn list(form: Form, format: u32, map: &Map) -> Result<Answer, Failure> {
+    let read = Disc::read(format, map.bytes());
+    let reading = Reading::new(format, map.bytes(), &read);
+    let text = match form {
+        Form::Listing => listing(reading),
+        Form::Dump => dump_reading(reading),
+        Form::Json => json(reading),
+    };
+    print(&text)?;
     Ok(reading.refusal.map_or(Answer::Accepted, Answer::Refused))
 }
 
-fn each_sector(mode: Mode, format: u32, map: &Map) -> io::Result<Answer> {
+fn each_sector(
+    format: Result<u32, Refusal>,
+    map: &Map,
+    visit: impl FnOnce(&Sectors, &mut StandardReport) -> io::Result<Answer>,
+) -> Result<Answer, Failure> {
+    let format = match format {
+        Ok(format) => format,
+        Err(refusal) => return Ok(Answer::NoFormat(refusal)),
+    };
     map.in_order();
     let image = map.bytes();
     let at_step = |done, all| map.forget_before(image.len() / all * done);
     let sectors = Sectors { format, image, at_step: &at_step };
     let mut report = Report::to_standard_output();
-    let answer = match mode {
-        Mode::Audit => match sectors.audit(&mut report)? {
-            Ok(audited) if audited.unsound > 0 => Answer::Unsound,
-            Ok(_) => Answer::Accepted,
-            Err(refusal) => Answer::Refused(refusal),
-        },
-        _ => sectors.fingerprints(&mut report)?.map_or_else(Answer::Refused, |()| Answer::Accepted),
-    };
-    report.end()?;
+    let answer = visit(&sectors, &mut report).map_err(Failure::Output)?;
+    report.end().map_err(Failure::Output)?;
     Ok(answer)
 }
 
+fn audit(sectors: &Sectors, report: &mut StandardReport) -> io::Result<Answer> {
+    Ok(match sectors.audit(report)? {
+        Ok(audited) if audited.unsound > 0 => Answer::Unsound,
+        Ok(_) => Answer::Accepted,
+        Err(refusal) => Answer::Refused(refusal),
+    })
+}
+
+fn fingerprints(sectors: &Sectors, report: &mut StandardReport) -> io::Result<Answer> {
+    let printed = sectors.fingerprints(report)?;
+    Ok(printed.map_or_else(Answer::Refused, |()| Answer::Accepted))
+}
+
 /// Writes the sample disc, unless it is there, to the file that the environment names.
-fn make_sample(mode: Mode) -> Result<PathBuf, Failure> {
+fn make_sample(arguments: &Arguments) -> Result<PathBuf, Failure> {
     let Some(path) = std::env::var_os(SAMPLE).map(PathBuf::from) else {
-        return Err(Failure::Usage("no image".to_owned()));
+        let wrong = Wrong { why: "no image".to_owned(), command: arguments.command };
+        return Err(Failure::Usage(wrong));
     };
     let image = sample::image();
     if fs::read(&path).ok().as_ref() != Some(&image) {
         fs::write(&path, image).map_err(|error| Failure::File(path.clone(), error))?;
     }
     let line = format!("No image given, so this is a sample disc: {}\n", name(&path));
-    match mode {
-        Mode::Listing => print(&format!("{line}\n"))?,
+    match arguments.task {
+        Task::List(Form::Listing) => print(&format!("{line}\n"))?,
         _ => write_error(format_args!("{line}")),
     }
     Ok(path)

@@ -23,9 +23,4 @@ impl<'a> Reading<'a> {
         };
         Reading { refusal, disc, format, sectors }
     }
-
-    /// An image that is refused without being read.
-    pub fn refused(refusal: Refusal) -> Self {
-        Reading { refusal: Some(refusal), disc: None, format: 0, sectors: 0 }
-    }
 }

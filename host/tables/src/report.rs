@@ -20,7 +20,10 @@ pub struct Report<W, E: Write> {
     shared: bool,
 }
 
-impl Report<BufWriter<StdoutLock<'static>>, Stderr> {
+/// Lines on standard output, a percentage on standard error.
+pub type StandardReport = Report<BufWriter<StdoutLock<'static>>, Stderr>;
+
+impl StandardReport {
     /// Lines on standard output. The percentage is on standard error if that is a terminal, and none
     /// where the lines are piped to another program, which may use the same terminal.
     pub fn to_standard_output() -> Self {

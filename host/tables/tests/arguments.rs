@@ -1,14 +1,18 @@
-//! Wrong arguments, files that cannot be read, and refusals: what is said, and the exit status.
+//! Help, wrong arguments, files that cannot be read, and refusals: what is said, and the exit status.
 
 mod common;
 
 use common::{Ran, SECTOR, Scratch, command, ran, run};
+use std::fs;
+use std::path::Path;
 use std::process::Stdio;
-use tables::arguments::HELP;
+use tables::commands::{COMMANDS, Command, LISTING};
 use tables::sample;
 
-const USAGE: &str =
-    "usage: tables [--dump | --json | --audit | --fingerprints] [--format N] [IMAGE]\n";
+const USAGE: &str = "\
+usage: tables [--dump | --json] [--format N] [IMAGE]
+       tables COMMAND [ARGUMENTS]
+";
 /// Where a field of the sample's master table stands.
 const MASTER: usize = 510 * SECTOR;
 
@@ -29,27 +33,114 @@ fn changed(name: &str, changes: &[(usize, &[u8])]) -> Scratch {
 fn wrong_arguments() {
     wrong(&[], "no image");
     wrong(&["--dump"], "no image");
-    wrong(&["--what", "a"], "unknown option --what");
-    wrong(&["\u{1b}[2J", "--\u{1b}[2J"], "unknown option --\u{fffd}[2J");
-    wrong(&["a", "b"], "only one image");
-    wrong(&["--dump", "a", "--audit"], "only one of --dump, --json, --audit and --fingerprints");
+    wrong(&["--what", "a"], "tables has no option --what");
+    wrong(&["\u{1b}[2J", "--\u{1b}[2J"], "tables has no option --\u{fffd}[2J");
+    wrong(&["a", "b"], "only one image, not a and b");
+    wrong(&["--dump", "a", "--json"], "only one of --dump and --json");
     wrong(&["--format", "x", "a"], "--format needs 0, 1 or 2, not x");
     wrong(&["a", "--format"], "--format needs 0, 1 or 2");
 }
 
 #[test]
+fn wrong_arguments_of_a_command() {
+    let usage = "usage: tables audit [--format N] [IMAGE]\n";
+    for (arguments, line) in [
+        (&["audit"][..], "no image"),
+        (&["audit", "--json", "a"], "audit has no option --json"),
+        (&["audit", "a", "b"], "only one image, not a and b"),
+        (&["audit", "audit"], "audit is a command, and stands first; a file: ./audit"),
+    ] {
+        assert_eq!(run(arguments), ran(2, "", &format!("tables: {line}\n{usage}")));
+    }
+}
+
+#[test]
+fn the_options_that_became_commands_name_them() {
+    for word in ["audit", "fingerprints"] {
+        let line = format!("tables has no option --{word}; the command is: tables {word}");
+        wrong(&[&format!("--{word}"), "a"], &line);
+        wrong(&["a", &format!("--{word}")], &line);
+        wrong(&["--format", "2", word, "a"], &stands_first(word));
+        wrong(&["a", word], &stands_first(word));
+    }
+}
+
+fn stands_first(word: &str) -> String {
+    format!("{word} is a command, and stands first; a file: ./{word}")
+}
+
+#[test]
 fn help() {
-    assert!(HELP.starts_with(USAGE));
-    assert!(HELP.lines().all(|line| line.len() <= 80));
-    assert_eq!(run(&["--help"]), ran(0, HELP, ""));
+    assert_eq!(LISTING.usage(), USAGE.trim_end());
+    assert_eq!(run(&["--help"]), ran(0, LISTING.help, ""));
+    assert_eq!(run(&["a", "b", "-h", "--what"]), ran(0, LISTING.help, ""));
+    for command in &COMMANDS {
+        assert_eq!(run(&[command.word, "--help"]), ran(0, command.help, ""));
+        assert_eq!(run(&[command.word, "a", "b", "-h"]), ran(0, command.help, ""));
+    }
+}
+
+#[test]
+fn the_help_has_each_command_and_each_option() {
+    let mut files = vec![LISTING.word];
+    for command in &COMMANDS {
+        let line = format!("\n  {:<12}  ", command.word);
+        assert!(LISTING.help.contains(&line), "{}", command.word);
+        assert!(command.usage().starts_with(&format!("usage: tables {} ", command.word)));
+        files.push(command.word);
+    }
+    for command in COMMANDS.iter().chain([&LISTING]) {
+        check_help(command);
+    }
+    let folder = Path::new(env!("CARGO_MANIFEST_DIR")).join("help");
+    let entries = fs::read_dir(folder).expect("the help is there");
+    let names = entries.map(|entry| entry.expect("it can be listed").file_name());
+    let mut names: Vec<_> = names.map(|name| name.into_string().expect("a plain name")).collect();
+    let mut files: Vec<_> = files.iter().map(|word| format!("{word}.txt")).collect();
+    names.sort();
+    files.sort();
+    assert_eq!(names, files);
+}
+
+fn check_help(command: &Command) {
+    assert!(command.help.lines().all(|line| line.len() <= 80), "{}", command.word);
+    assert!(command.help.ends_with(".\n"));
+    for option in command.options.iter().chain(&["--help"]) {
+        assert!(command.help.contains(&format!("\n  {option} ")), "{} {option}", command.word);
+    }
+}
+
+#[test]
+fn the_release() {
+    let version = format!("tables {}\n", env!("CARGO_PKG_VERSION"));
+    assert_eq!(run(&["--version"]), ran(0, &version, ""));
+    assert_eq!(run(&["audit", "a", "b", "--version"]), ran(0, &version, ""));
+}
+
+#[test]
+fn a_file_with_a_command_s_name() {
+    let folder = Scratch::folder("named");
+    let image = folder.join("audit");
+    fs::write(&image, sample::image()).expect("a scratch file is written");
+    let in_folder = |arguments: &[&str]| {
+        let output = command().current_dir(&*folder).args(arguments).output();
+        Ran::from(output.expect("the command runs"))
+    };
+    let listing = include_str!("sample.txt");
+    assert_eq!(in_folder(&["./audit"]), ran(0, listing, ""));
+    assert_eq!(in_folder(&["--", "audit"]), ran(0, listing, ""));
+    let refused = |name| ran(1, "", &format!("{name}: refused 11: no header\n"));
+    assert_eq!(in_folder(&["audit", "./audit"]), refused("./audit"));
+    assert_eq!(in_folder(&["audit", "--", "audit"]), refused("audit"));
+    assert_eq!(in_folder(&["audit"]).status, Some(2));
 }
 
 #[test]
 fn files_that_cannot_be_mapped() {
     let absent = Scratch::absent("absent.iso");
     let line = format!("tables: {}: No such file or directory (os error 2)\n", absent.name());
-    for mode in ["--dump", "--json", "--audit", "--fingerprints", "--format=0"] {
-        assert_eq!(run(&[mode, absent.name()]), ran(2, "", &line));
+    for word in ["--dump", "--json", "audit", "fingerprints", "--format=0"] {
+        assert_eq!(run(&[word, absent.name()]), ran(2, "", &line));
     }
     let folder = env!("CARGO_TARGET_TMPDIR");
     let line = format!("tables: {folder}: Is a directory (os error 21)\n");
@@ -73,9 +164,9 @@ fn a_sample_that_cannot_be_written() {
 fn an_output_that_takes_nothing() {
     let scratch = Scratch::new("full.iso", &sample::image());
     let line = "tables: standard output: No space left on device (os error 28)\n";
-    for mode in ["--dump", "--fingerprints"] {
+    for word in ["--dump", "fingerprints"] {
         let full = std::fs::File::options().write(true).open("/dev/full").expect("it is there");
-        let output = command().args([mode, scratch.name()]).stdout(full).output();
+        let output = command().args([word, scratch.name()]).stdout(full).output();
         assert_eq!(Ran::from(output.expect("it runs")), ran(2, "", line));
     }
 }
@@ -84,14 +175,41 @@ fn an_output_that_takes_nothing() {
 fn an_empty_file() {
     let scratch = Scratch::new("empty.iso", &[]);
     let image = scratch.name();
-    assert_eq!(run(&[image]), ran(1, "", "refused 4: not Scarlet Book\n"));
-    assert_eq!(run(&["--format", "0", image]), ran(1, "", "refused 3: cut master\n"));
-    assert_eq!(run(&["--dump", image]), ran(1, "refused 4\n", "refused 4: not Scarlet Book\n"));
-    let audited = run(&["--audit", "--format", "2", image]);
+    let cut = scratch.refused("3: cut master");
+    assert_eq!(run(&[image]), ran(1, "", &cut));
+    assert_eq!(run(&["--format", "0", image]), ran(1, "", &cut));
+    assert_eq!(run(&["--dump", image]), ran(1, "refused 3\n", &cut));
+    let audited = run(&["audit", "--format", "2", image]);
     assert_eq!(audited, ran(0, "0 headers, 0 unsound\n", ""));
-    let refused = ran(1, "", "refused 11: no header\n");
-    assert_eq!(run(&["--audit", "--format", "0", image]), refused);
-    assert_eq!(run(&["--fingerprints", "--format", "0", image]), ran(0, "", ""));
+    let refused = ran(1, "", &scratch.refused("11: no header"));
+    assert_eq!(run(&["audit", "--format", "0", image]), refused);
+    assert_eq!(run(&["fingerprints", "--format", "0", image]), ran(0, "", ""));
+}
+
+#[test]
+fn an_image_in_which_no_format_is_found_is_read_as_format_0() {
+    let zeros = vec![0; 520 * SECTOR];
+    let short = Scratch::new("short.iso", &zeros[..520 * SECTOR - 1]);
+    let whole = Scratch::new("whole.iso", &zeros);
+    for (scratch, number, word) in [(&short, 3, "cut master"), (&whole, 4, "not Scarlet Book")] {
+        let image = scratch.name();
+        let error = scratch.refused(&format!("{number}: {word}"));
+        assert_eq!(run(&[image]), ran(1, "", &error));
+        assert_eq!(run(&["--dump", image]), ran(1, &format!("refused {number}\n"), &error));
+        let json = run(&["--json", image]);
+        assert!(json.out.contains(&format!("{{\"number\": {number}, ")), "{}", json.out);
+        assert_eq!((json.status, json.error), (Some(1), error));
+        let advice = "no format is found in it; --format 2 reads it all the same";
+        let error =
+            scratch.refused("4: not Scarlet Book") + &format!("tables: {image}: {advice}\n");
+        for word in ["audit", "fingerprints"] {
+            assert_eq!(run(&[word, image]), ran(1, "", &error));
+        }
+        let audited = run(&["audit", "--format", "2", image]);
+        assert_eq!(audited, ran(0, "515 headers, 0 unsound\n", ""));
+        let printed = run(&["fingerprints", "--format", "2", image]);
+        assert_eq!((printed.status, printed.out.lines().count()), (Some(0), 515));
+    }
 }
 
 #[test]
@@ -108,8 +226,8 @@ fn refusals() {
         (&newer, &[], 5, "newer edition"),
     ];
     for (image, arguments, number, word) in cases {
-        let error = format!("refused {number}: {word}\n");
-        let refused = |mode: &[&str]| run(&[arguments, mode, &[image.name()]].concat());
+        let error = image.refused(&format!("{number}: {word}"));
+        let refused = |form: &[&str]| run(&[arguments, form, &[image.name()]].concat());
         assert_eq!(refused(&[]), ran(1, "", &error));
         assert_eq!(refused(&["--dump"]), ran(1, &format!("refused {number}\n"), &error));
         let member = format!("\"refused\": {{\"number\": {number}, \"word\": \"{word}\"}}");
@@ -123,9 +241,8 @@ fn a_silent_disc_has_its_master_record_and_warnings() {
     let changes: [(usize, &[u8]); 5] =
         [(64, &[9; 8]), (72, &[0; 8]), (138, &[3]), (10 * SECTOR + 138, &[3]), (20 * SECTOR, b"x")];
     let silent = changed("silent.iso", &changes);
-    let error = "refused 6: silent disc\n";
     let listed = run(&[silent.name()]);
-    assert_eq!((listed.status, &*listed.error), (Some(1), error));
+    assert_eq!((listed.status, listed.error), (Some(1), silent.refused("6: silent disc")));
     let lines =
         ["Format", "Sectors", "Album", "Album artist", "Album catalogue", "Disc", "Disc artist"];
     for (line, begin) in listed.out.lines().zip(lines) {

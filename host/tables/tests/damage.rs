@@ -28,7 +28,8 @@ fn half_a_sector_is_not_taken_for_a_whole_one() {
         let (size, name) = (image.len() / SECTORS, format!("half{format}.iso"));
         let dumped = |bytes| run(&["--dump", Scratch::new(&name, &image[..bytes]).name()]);
         let master = 520 * size;
-        let refused = ran(1, "refused 3\n", "refused 3: cut master\n");
+        let error = Scratch::absent(&name).refused("3: cut master");
+        let refused = ran(1, "refused 3\n", &error);
         assert_eq!(dumped(master - 1), refused);
         assert_eq!(dumped(master - size / 2), refused);
         assert_eq!(lines(&dumped(master), &["refused", "areas"]), ["refused 6", "areas 0"]);
@@ -42,7 +43,7 @@ fn half_a_sector_is_not_taken_for_a_whole_one() {
     }
     let cut = Scratch::new("cut.iso", &sample::image()[..SECTORS * SECTOR - 1]);
     assert_eq!(lines(&run(&[cut.name()]), &["Sectors"]), ["Sectors          563"]);
-    assert_eq!(run(&["--fingerprints", cut.name()]).out.lines().count(), 563);
+    assert_eq!(run(&["fingerprints", cut.name()]).out.lines().count(), 563);
 }
 
 #[test]

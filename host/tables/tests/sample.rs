@@ -109,6 +109,6 @@ fn without_an_image_the_sample_is_made() {
     }
     assert_eq!(std::fs::read(&*scratch).expect("it was made"), image());
     assert_eq!(made(&["--json"]), ran(0, JSON, &line));
-    let refused = format!("{line}refused 11: no header\n");
-    assert_eq!(made(&["--audit"]), ran(1, "", &refused));
+    let refused = line + &scratch.refused("11: no header");
+    assert_eq!(made(&["audit"]), ran(1, "", &refused));
 }

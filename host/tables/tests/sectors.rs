@@ -20,7 +20,7 @@ fn headers(sectors: usize, unsound: &[usize]) -> Vec<u8> {
 #[test]
 fn every_unsound_header_has_a_line() {
     let sound = Scratch::new("sound.raw", &headers(5, &[]));
-    let audit = |scratch: &Scratch| run(&["--audit", "--format", "2", scratch.name()]);
+    let audit = |scratch: &Scratch| run(&["audit", "--format", "2", scratch.name()]);
     assert_eq!(audit(&sound), ran(0, "5 headers, 0 unsound\n", ""));
     let some = Scratch::new("some.raw", &headers(5, &[0, 3]));
     let lines = "0: unsound header\n3: unsound header\n5 headers, 2 unsound\n";
@@ -33,21 +33,18 @@ fn every_unsound_header_has_a_line() {
 #[test]
 fn the_audit_finds_out_the_format_and_refuses_those_without_headers() {
     let raw = Scratch::new("disc.raw", &stored(2, &sample::image(), UNSOUND));
-    let audited = run(&["--audit", raw.name()]);
+    let audited = run(&["audit", raw.name()]);
     assert_eq!((audited.status, &*audited.error), (Some(1), ""));
     assert!(audited.out.starts_with("0: unsound header\n1: unsound header\n"));
     assert!(audited.out.ends_with("\n563: unsound header\n564 headers, 564 unsound\n"));
     let plain = Scratch::new("disc.iso", &sample::image());
-    let refused = ran(1, "", "refused 11: no header\n");
-    assert_eq!(run(&["--audit", plain.name()]), refused);
-    assert_eq!(run(&["--audit", "--format=1", plain.name()]), refused);
-    let foreign = ran(1, "", "refused 1: foreign format\n");
-    for mode in ["--audit", "--fingerprints"] {
-        assert_eq!(run(&[mode, "--format=3", plain.name()]), foreign);
+    let refused = ran(1, "", &plain.refused("11: no header"));
+    assert_eq!(run(&["audit", plain.name()]), refused);
+    assert_eq!(run(&["audit", "--format=1", plain.name()]), refused);
+    let foreign = ran(1, "", &plain.refused("1: foreign format"));
+    for word in ["audit", "fingerprints"] {
+        assert_eq!(run(&[word, "--format=3", plain.name()]), foreign);
     }
-    let unknown = Scratch::new("unknown.iso", &[0; SECTOR]);
-    let refused = ran(1, "", "refused 4: not Scarlet Book\n");
-    assert_eq!(run(&["--fingerprints", unknown.name()]), refused);
 }
 
 #[test]
@@ -63,7 +60,7 @@ fn every_sector_has_a_fingerprint() {
     for format in 0..3 {
         let scratch = Scratch::new(&format!("prints{format}"), &stored(format, &image, SOUND));
         let format = format.to_string();
-        let printed = run(&["--fingerprints", "--format", &format, scratch.name()]);
+        let printed = run(&["fingerprints", "--format", &format, scratch.name()]);
         assert_eq!(printed, ran(0, &lines, ""));
     }
 }
@@ -76,7 +73,7 @@ fn many(name: &str) -> Scratch {
 /// The command over such a file, its output not read yet.
 fn fingerprints(scratch: &Scratch) -> Child {
     let mut command = command();
-    command.args(["--fingerprints", scratch.name()]);
+    command.args(["fingerprints", scratch.name()]);
     command.stdout(Stdio::piped()).stderr(Stdio::piped()).spawn().expect("it runs")
 }
 
@@ -127,7 +124,7 @@ fn on_terminal(arguments: &str) -> Option<String> {
 #[test]
 fn progress_is_shown_on_a_terminal_and_cleared() {
     let large = Scratch::sparse("progress.iso", &[], 300_000 * SECTOR as u64);
-    let fingerprints = format!("--fingerprints --format 0 '{}'", large.name());
+    let fingerprints = format!("fingerprints --format 0 '{}'", large.name());
     let Some(shown) = on_terminal(&format!("{fingerprints} >/dev/null")) else {
         eprintln!("left out, for want of the command script or of a terminal");
         return;
@@ -147,7 +144,7 @@ fn progress_is_shown_on_a_terminal_and_cleared() {
 #[test]
 fn a_few_headers_are_audited_on_a_terminal_without_progress() {
     let some = Scratch::new("terminal.raw", &headers(5, &[2]));
-    if let Some(shown) = on_terminal(&format!("--audit --format 2 '{}'", some.name())) {
+    if let Some(shown) = on_terminal(&format!("audit --format 2 '{}'", some.name())) {
         assert_eq!(shown, "2: unsound header\r\n5 headers, 1 unsound\r\n");
     }
 }

@@ -13,7 +13,7 @@ pub const SECTOR: usize = 2048;
 pub const SOUND: [u8; 6] = [0, 0, 0, 1, 3, 2];
 pub const UNSOUND: [u8; 6] = [0, 0, 0, 1, 2, 3];
 
-/// A file that is removed when it is dropped.
+/// A file or folder that is removed when it is dropped.
 pub struct Scratch(PathBuf);
 
 impl Scratch {
@@ -38,6 +38,18 @@ impl Scratch {
         Scratch(folder.join(format!("tables-{}-{name}", std::process::id())))
     }
 
+    /// A folder.
+    pub fn folder(name: &str) -> Self {
+        let scratch = Scratch::absent(name);
+        fs::create_dir(&scratch.0).expect("a scratch folder is made");
+        scratch
+    }
+
+    /// The line by which the file is refused.
+    pub fn refused(&self, number_and_word: &str) -> String {
+        format!("{}: refused {number_and_word}\n", self.name())
+    }
+
     pub fn name(&self) -> &str {
         self.0.to_str().expect("the folder of scratch files has a plain name")
     }
@@ -53,7 +65,7 @@ impl Deref for Scratch {
 
 impl Drop for Scratch {
     fn drop(&mut self) {
-        let _ = fs::remove_file(&self.0);
+        let _ = fs::remove_file(&self.0).or_else(|_| fs::remove_dir_all(&self.0));
     }
 }
 

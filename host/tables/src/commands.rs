@@ -1,0 +1,63 @@
+//! The commands by their words. A new one is an entry here, a file `help/WORD.txt`, which `./tables`
+//! prints too, and a line in `help/tables.txt`.
+
+/// What is done with an image.
+#[derive(Clone, Copy, Debug, PartialEq, Eq)]
+pub enum Task {
+    List(Form),
+    Audit,
+    Fingerprints,
+}
+
+/// How a disc is presented.
+#[derive(Clone, Copy, Debug, PartialEq, Eq)]
+pub enum Form {
+    Listing,
+    Dump,
+    Json,
+}
+
+/// What the first argument may name.
+#[derive(Debug, PartialEq, Eq)]
+pub struct Command {
+    pub word: &'static str,
+    pub task: Task,
+    /// The options that it takes, but for `--help`.
+    pub options: &'static [&'static str],
+    /// How it is used, a blank line, and more about it.
+    pub help: &'static str,
+}
+
+/// What is done without a word.
+pub const LISTING: Command = Command {
+    word: "tables",
+    task: Task::List(Form::Listing),
+    options: &["--dump", "--json", "--format"],
+    help: include_str!("../help/tables.txt"),
+};
+
+pub const COMMANDS: [Command; 2] = [
+    Command {
+        word: "audit",
+        task: Task::Audit,
+        options: &["--format"],
+        help: include_str!("../help/audit.txt"),
+    },
+    Command {
+        word: "fingerprints",
+        task: Task::Fingerprints,
+        options: &["--format"],
+        help: include_str!("../help/fingerprints.txt"),
+    },
+];
+
+impl Command {
+    pub fn of_word(word: &str) -> Option<&'static Command> {
+        COMMANDS.iter().find(|command| command.word == word)
+    }
+
+    /// The lines that say how it is used.
+    pub fn usage(&self) -> &'static str {
+        self.help.split("\n\n").next().unwrap_or_default()
+    }
+}
