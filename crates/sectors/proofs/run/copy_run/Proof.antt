@@ -7,7 +7,7 @@ use lib.ListN.{length}
 use Rattle.sectors.specs.Fill.{fill}
 use Rattle.sectors.specs.FillLaws.{fill-none}
 use Rattle.sectors.specs.Sector.{runData}
-use Rattle.sectors.proofs.Turns.{address-bound, next-there, next-length, copy-turn}
+use Rattle.sectors.proofs.Turns.{address-bound, next-there, copy-turn}
 use borrow.Author.Needs.{needs}
 use Rattle.sectors.proofs.run.copy_run.Statement.{statement}
 use Rattle.sectors.proofs.run.copy_run.Tie as tie
@@ -32,22 +32,8 @@ stored-data-requires c κs =
     let start = c .before .before .before .before in let a = start .args in
     next-there _ (now (a .image)) (a .first) _ _ (start .pre .0) (c .loop-test .taken)
 
-add-copy-bytes : tie.Need-add-copy-bytes Inv-loop μ-loop
-add-copy-bytes c = search needs
-
-sub-copy-bytes : tie.Need-sub-copy-bytes Inv-loop μ-loop
-sub-copy-bytes c = search needs
-
-part-copy-bytes-start : tie.Need-part-copy-bytes-start Inv-loop μ-loop
-part-copy-bytes-start c = search needs
-
-part-copy-bytes-end : tie.Need-part-copy-bytes-end Inv-loop μ-loop
-part-copy-bytes-end c = search needs
-
 copy-bytes-requires : tie.Need-copy-bytes-requires Inv-loop μ-loop
-copy-bytes-requires c κs =
-    let start = c .before .before .before .before .before .before in let a = start .args in let l = c .before .before .before .loop in
-    next-length _ (now (a .image)) (a .first) _ (l .k) (start .pre .0) (c .before .before .loop-test .taken) _ (l .buf) (l .to) (c .before .stored-data .ensures .0) (omega arith)
+copy-bytes-requires c κs = search needs
 
 add-to : tie.Need-add-to Inv-loop μ-loop
 add-to c = search needs
@@ -64,8 +50,8 @@ loop-again c =
       search needs,
       search needs,
       search needs,
-      copy-turn _ (now (a .image)) (a .first) _ (l .k) (start .pre .0) (c .before .before .before .before .before .loop-test .taken) (now (a .buf)) _ _ _ (l .to) (start .pre .1) (l .inv .1) (l .inv .3)
-          (c .before .before .copy-bytes .ensures ∙ c .before .before .before .before .stored-data .ensures .0),
+      copy-turn _ (now (a .image)) (a .first) _ (l .k) (start .pre .0) (c .before .before .before .before .before .loop-test .taken) (now (a .buf)) _ _ _ _ (l .to) (start .pre .1) (l .inv .1) (l .inv .3)
+          (c .before .before .before .before .stored-data .ensures .0) (c .before .before .copy-bytes .ensures),
     )
 
 same-length : tie.Need-same-length Inv-loop μ-loop
@@ -86,10 +72,6 @@ copy-run-spec =
     loop-holds
     add-stored-data
     stored-data-requires
-    add-copy-bytes
-    sub-copy-bytes
-    part-copy-bytes-start
-    part-copy-bytes-end
     copy-bytes-requires
     add-to
     add-k
