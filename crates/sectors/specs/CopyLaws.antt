@@ -1,5 +1,5 @@
 -- Laws of a copy into lent memory: what fits is copied whole; a turn of the loop that copies, and its end. Assumes nothing.
-use mathlib.Core.Path.{_≡_, ap}
+use mathlib.Core.Path.{_≡_}
 use mathlib.Core.List.{List}
 use Prim.Native.Nat.{ℕ, _+_, _-_, _≤_, _<_, min}
 use native.Mathlib.Numerals.{add-one}

@@ -45,7 +45,7 @@ loop-again c =
       search needs,
       simp length-set (omega arith),
       ap (λ (d : List ℕ). set d (a .at + l .i) (getD (now (a .from)) (l .i) 0)) (l .inv .2)
-      ∙ copy-more (a .at) (now (a .from)) (now (a .to)) (l .i) 0 (omega arith) (omega arith),
+          ∙ copy-more (a .at) (now (a .from)) (now (a .to)) (l .i) 0 (omega arith) (omega arith),
     )
 
 same-length : tie.Need-same-length Inv-loop μ-loop
