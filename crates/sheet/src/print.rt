@@ -5,6 +5,7 @@ use area::area::Area;
 use area::table::MAX_TRACKS;
 use area::track::Track;
 use disc::answer::DiscAnswer;
+use disc::detect::detect_format;
 use disc::regions::TRACK_RECORDS;
 use disc::regions::WARNING_WORDS;
 use disc::regions::WORK_BYTES;
@@ -100,7 +101,7 @@ fn print_area(area: Area, tracks: [Track; TRACK_RECORDS], first: u8) {
 }
 
 // Work bytes. The contract gives only the length, which lending them needs.
-fn blank_work() -> [u8; WORK_BYTES]
+pub(crate) fn blank_work() -> [u8; WORK_BYTES]
     ensures { λ r. ⌜ 544768 ≡ length r ⌝ }
 {
     [0; WORK_BYTES]
@@ -117,4 +118,30 @@ pub(crate) fn print_reading(image: &[u8]) {
     print_warnings(&words, answer.warnings);
     print_area(answer.two_channel, tracks, 0);
     print_area(answer.multichannel, tracks, MAX_TRACKS as u8);
+}
+
+// A line of so many work bytes and warning words, and the refusal of an image without a sector that is read with them.
+pub(crate) fn print_refusal(work: &mut [u8], bytes: usize, words: &mut [u32], count: usize) {
+    if work.len() < bytes || words.len() < count {
+        return;
+    }
+    let reading = read_disc_by_value(PLAIN, b"", &mut work[..bytes], no_tracks(), &mut words[..count]);
+    let answer = reading.answer;
+    io::write_all(STDOUT_FILENO, b"work");
+    print_field(bytes as u64);
+    io::write_all(STDOUT_FILENO, b" words");
+    print_field(count as u64);
+    io::write_all(STDOUT_FILENO, b" refusal");
+    print_field(answer.refusal as u64);
+    io::write_all(STDOUT_FILENO, b"\n");
+}
+
+// A line of the refusal and the format that are found for an image.
+pub(crate) fn print_format(image: &[u8]) {
+    let found = detect_format(image);
+    io::write_all(STDOUT_FILENO, b"refusal");
+    print_field(found.refusal as u64);
+    io::write_all(STDOUT_FILENO, b" format");
+    print_field(found.sector_format as u64);
+    io::write_all(STDOUT_FILENO, b"\n");
 }
