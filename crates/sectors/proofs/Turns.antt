@@ -5,11 +5,11 @@ use mathlib.Core.Bool.{Bool, true, false}
 use mathlib.Core.List.{List, _++_}
 use native.Mathlib.Numerals.{add-one}
 use native.Mathlib.Omega.{arith}
+use borrow.Rule.Slice.PartMut.{putMid}
 use lib.ListN.{length, take, drop, take-append-drop, length-take, length-drop}
 use lib.Seq.{take-add, length-take-le}
-use Rattle.sectors.specs.Fill.{part, fill, copyInto}
-use Rattle.sectors.specs.FillLaws.{slice-part, part-front, length-fill, fill-more}
-use Rattle.sectors.specs.CopyLaws.{copy-whole}
+use Rattle.sectors.specs.Fill.{part, fill}
+use Rattle.sectors.specs.FillLaws.{slice-part, put-fill, part-front, fill-more}
 use Rattle.sectors.specs.Format.{sectorSize}
 use Rattle.sectors.specs.Sector.{readable, sectorData, runData}
 use Rattle.sectors.specs.SectorLaws.{readable-true, count-bound, sector-of-run, sector-length, run-shorter, run-length, run-part}
@@ -50,17 +50,16 @@ module _ (format : ℕ) (image : List ℕ) (first count k : ℕ) (there : readab
   sector-size = sector-length format image (first + k) next-there
 
   -- the sector is copied behind those before it
-  pub copy-turn : (old buf next stored : List ℕ) (at to : ℕ) → at + count * sectorSize ≤ length old → to ≡ at + k * sectorSize
-      → buf ≡ fill at (run k) old → stored ≡ sectorData format image (first + k) → next ≡ copyInto to stored buf
-      → next ≡ fill at (run (k + 1)) old
-  copy-turn old buf next stored at to room et eb ed copied =
+  pub copy-turn : (old buf last : List ℕ) (at to : ℕ) → at + count * sectorSize ≤ length old → to ≡ at + k * sectorSize
+      → buf ≡ fill at (run k) old → last ≡ sectorData format image (first + k)
+      → putMid to (to + sectorSize - to) buf last ≡ fill at (run (k + 1)) old
+  copy-turn old buf last at to room et eb el =
       let l = so-far in
       let s = sector-size in
+      let size : length last ≡ to + sectorSize - to = omega (arith, ap length el) in
       let here : to ≡ at + length (run k) = omega arith in
-      let size = length-fill at (run k) old (omega arith) in
-      copied
-      ∙ copy-whole to stored buf (omega (arith, ap length eb, ap length ed))
-      ∙ (λ i. fill (here i) (ed i) (eb i))
+      put-fill to (to + sectorSize - to) buf last size
+      ∙ (λ i. fill (here i) (el i) (eb i))
       ∙ fill-more at (run k) old (omega arith) (sectorData format image (first + k)) (omega arith)
       ∙ ap (λ (r : List ℕ). fill at r old) (sym run-next)
 

@@ -4,6 +4,7 @@ use native.Mathlib.Omega.{arith}
 use native.Mathlib.Nat.{add-zero, zero-add, add-comm}
 use mathlib.Core.Path.{_≡_, sym, _∙_, ap}
 use mathlib.Core.List.{List, [], _∷_, _++_, append-assoc}
+use borrow.Rule.Slice.PartMut.{putMid}
 use lib.ListN.{length, take, drop, getD, set, length-append, length-take, length-drop, take-append-drop, drop-of-length-le}
 use lib.Seq.{sets, sets-eq, take-all, take-nil, drop-nil, take-take, length-take-le, take-append-le, drop-append-le, drop-append-add, take-append-seam, drop-drop, drop-cons, set-at, take-at, drop-at, getD-take, getD-drop}
 use Rattle.sectors.specs.Fill.{part, fill, startAt}
@@ -23,6 +24,11 @@ module _ {A : Type 0} where
   pub slice-part : (at n : ℕ) (l : List A) → take (at + n - at) (drop at l) ≡ part at n l
   unfolding part
   slice-part at n l = let e : at + n - at ≡ n = omega arith in rw e
+
+  -- what a call leaves of `&mut l[at..at + n]`
+  pub put-fill : (at n : ℕ) (old new : List A) → length new ≡ n → putMid at n old new ≡ fill at new old
+  unfolding fill
+  put-fill at n old new e = rw (drop-drop n at old, ← e)
 
   -- how long a part is
   pub part-size : (at n : ℕ) (l : List A) → length (part at n l) ≡ min n (length l - at)

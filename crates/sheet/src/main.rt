@@ -18,6 +18,7 @@ use print::blank_work;
 use print::print_format;
 use print::print_reading;
 use print::print_refusal;
+use print::short_work;
 
 // A table of three sectors in two copies: the first lies at the image's end, so that a cut takes it and leaves the second.
 const FIRST_COPY: u16 = 520;
@@ -149,14 +150,16 @@ fn equal_lsns() {
     print_reading(&image);
 }
 
-// Lent memory, and one work byte or one warning word less: refused 2; enough of both, 3 for an image without a sector.
+// One work byte or one warning word too few: 2. Enough of both: 3, for an image without a sector.
 fn short_buffers() {
     let mut work = blank_work();
+    let mut less_work = short_work();
     let mut words = [0u32; 1537];
+    let mut less_words = [0u32; 1536];
     io::write_all(STDOUT_FILENO, b"short_buffers\n");
-    print_refusal(&mut work, 544767, &mut words, 1537);
-    print_refusal(&mut work, 544768, &mut words, 1536);
-    print_refusal(&mut work, 544768, &mut words, 1537);
+    print_refusal(&mut less_work, &mut words);
+    print_refusal(&mut work, &mut less_words);
+    print_refusal(&mut work, &mut words);
 }
 
 // The master table's signature where LSN 510 begins in format 1, then in 2 too, then in 0 too: of 1 and 2 it is 2 that is found.

@@ -107,6 +107,13 @@ pub(crate) fn blank_work() -> [u8; WORK_BYTES]
     [0; WORK_BYTES]
 }
 
+// One byte less.
+pub(crate) fn short_work() -> [u8; 544767]
+    ensures { λ r. ⌜ 544767 ≡ length r ⌝ }
+{
+    [0; 544767]
+}
+
 // Reads a disc image and writes what was read.
 pub(crate) fn print_reading(image: &[u8]) {
     let mut work = blank_work();
@@ -120,17 +127,14 @@ pub(crate) fn print_reading(image: &[u8]) {
     print_area(answer.multichannel, tracks, MAX_TRACKS as u8);
 }
 
-// A line of so many work bytes and warning words, and the refusal of an image without a sector that is read with them.
-pub(crate) fn print_refusal(work: &mut [u8], bytes: usize, words: &mut [u32], count: usize) {
-    if work.len() < bytes || words.len() < count {
-        return;
-    }
-    let reading = read_disc_by_value(PLAIN, b"", &mut work[..bytes], no_tracks(), &mut words[..count]);
-    let answer = reading.answer;
+// A line of the sizes of lent memory, and the refusal of an image without a sector that is read with it.
+pub(crate) fn print_refusal(work: &mut [u8], words: &mut [u32]) {
     io::write_all(STDOUT_FILENO, b"work");
-    print_field(bytes as u64);
+    print_field(work.len() as u64);
     io::write_all(STDOUT_FILENO, b" words");
-    print_field(count as u64);
+    print_field(words.len() as u64);
+    let reading = read_disc_by_value(PLAIN, b"", work, no_tracks(), words);
+    let answer = reading.answer;
     io::write_all(STDOUT_FILENO, b" refusal");
     print_field(answer.refusal as u64);
     io::write_all(STDOUT_FILENO, b"\n");

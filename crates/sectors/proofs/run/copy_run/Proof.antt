@@ -1,13 +1,14 @@
 -- `sectors::run::copy_run` meets its contract: after k turns the data of k sectors fill the buffer. Assumes nothing.
-use mathlib.Core.Path.{_≡_, refl, sym}
+use mathlib.Core.Path.{_≡_, refl, sym, _∙_}
 use Prim.Native.Nat.{_+_, _*_, _-_, _≤_}
 use native.Mathlib.Omega.{arith}
 use denote.Ref.{now}
 use lib.ListN.{length}
 use Rattle.sectors.specs.Fill.{fill}
 use Rattle.sectors.specs.FillLaws.{fill-none}
+use Rattle.sectors.specs.CopyLaws.{copy-over}
 use Rattle.sectors.specs.Sector.{runData}
-use Rattle.sectors.proofs.Turns.{address-bound, next-there, copy-turn}
+use Rattle.sectors.proofs.Turns.{address-bound, next-there, next-length, copy-turn}
 use borrow.Author.Needs.{needs}
 use Rattle.sectors.proofs.run.copy_run.Statement.{statement}
 use Rattle.sectors.proofs.run.copy_run.Tie as tie
@@ -32,6 +33,18 @@ stored-data-requires c κs =
     let start = c .before .before .before .before in let a = start .args in
     next-there _ (now (a .image)) (a .first) _ _ (start .pre .0) (c .loop-test .taken)
 
+add-copy-bytes : tie.Need-add-copy-bytes Inv-loop μ-loop
+add-copy-bytes c = search needs
+
+sub-copy-bytes : tie.Need-sub-copy-bytes Inv-loop μ-loop
+sub-copy-bytes c = search needs
+
+part-copy-bytes-start : tie.Need-part-copy-bytes-start Inv-loop μ-loop
+part-copy-bytes-start c = search needs
+
+part-copy-bytes-end : tie.Need-part-copy-bytes-end Inv-loop μ-loop
+part-copy-bytes-end c = search needs
+
 copy-bytes-requires : tie.Need-copy-bytes-requires Inv-loop μ-loop
 copy-bytes-requires c κs = search needs
 
@@ -46,12 +59,14 @@ loop-less c = search needs
 
 loop-again : tie.Need-loop-again Inv-loop μ-loop
 loop-again c =
-    let start = c .before .before .before .before .before .before .before .before .before in let a = start .args in let l = c .before .before .before .before .before .before .loop in (
+    let start = c .before .before .before .before .before .before .before .before .before in let a = start .args in let l = c .before .before .before .before .before .before .loop in
+    let more = c .before .before .before .before .before .loop-test .taken in let stored = c .before .before .before .before .stored-data .ensures .0 in
+    let size = next-length _ (now (a .image)) (a .first) _ (l .k) (start .pre .0) more _ (l .buf) (l .to) stored (omega arith) in (
       search needs,
       search needs,
       search needs,
-      copy-turn _ (now (a .image)) (a .first) _ (l .k) (start .pre .0) (c .before .before .before .before .before .loop-test .taken) (now (a .buf)) _ _ _ _ (l .to) (start .pre .1) (l .inv .1) (l .inv .3)
-          (c .before .before .before .before .stored-data .ensures .0) (c .before .before .copy-bytes .ensures),
+      copy-turn _ (now (a .image)) (a .first) _ (l .k) (start .pre .0) more (now (a .buf)) _ _ _ (l .to) (start .pre .1) (l .inv .1) (l .inv .3)
+          (c .before .before .copy-bytes .ensures ∙ copy-over _ _ size ∙ stored),
     )
 
 same-length : tie.Need-same-length Inv-loop μ-loop
@@ -72,6 +87,10 @@ copy-run-spec =
     loop-holds
     add-stored-data
     stored-data-requires
+    add-copy-bytes
+    sub-copy-bytes
+    part-copy-bytes-start
+    part-copy-bytes-end
     copy-bytes-requires
     add-to
     add-k
