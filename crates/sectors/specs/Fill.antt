@@ -1,5 +1,5 @@
 -- Lent memory: a list that fills a part of another. Assumes nothing.
-use Prim.Native.Nat.{ℕ, _+_}
+use Prim.Native.Nat.{ℕ, _+_, _-_}
 use mathlib.Core.List.{List, _++_}
 use lib.ListN.{length, take, drop}
 
@@ -11,6 +11,10 @@ module _ {A : Type 0} where
   -- "fill .. Everything else is unchanged": `old`, with `new` in the place of as many elements from `at` on
   unfoldable pub fill : ℕ → List A → List A → List A
   fill at new old = take at old ++ (new ++ drop (at + length new) old)
+
+  -- "what does not fit is not copied": `old`, filled from `at` on with as many elements of `new` as fit
+  unfoldable pub copyInto : ℕ → List A → List A → List A
+  copyInto at new old = fill at (take (length old - at) new) old
 
 -- "as a part of the caller's table": where a part begins in the memory of bytes that it is a part of. (A pointer is a block of memory
 -- and a place in it.)

@@ -1,7 +1,7 @@
 -- Laws of lent memory: what a part of it is, and what stands in a part after a fill. Assumes nothing.
 use Prim.Native.Nat.{ℕ, zero, suc, _+_, _-_, _≤_, _<_, min}
 use native.Mathlib.Omega.{arith}
-use native.Mathlib.Nat.{add-zero, add-comm}
+use native.Mathlib.Nat.{add-zero, zero-add, add-comm}
 use mathlib.Core.Path.{_≡_, sym, _∙_, ap}
 use mathlib.Core.List.{List, [], _∷_, _++_, append-assoc}
 use borrow.Rule.Slice.PartMut.{putMid}
@@ -104,6 +104,11 @@ module _ {A : Type 0} where
   pub fill-none : (at : ℕ) (old : List A) → fill at [] old ≡ old
   unfolding fill
   fill-none at old = simp (add-zero, take-append-drop)
+
+  -- a fill at the start stands before what is left
+  pub fill-front : (new old : List A) → fill 0 new old ≡ new ++ drop (length new) old
+  unfolding fill
+  fill-front new old = rw (zero-add (length new))
 
   -- elements stored one after another fill their places
   pub sets-fill : (at : ℕ) (new old : List A) → at + length new ≤ length old → sets old at new ≡ fill at new old

@@ -1,5 +1,5 @@
 // The sectors of an SACD image, the numbers in its tables, the header audit and the fingerprint.
-mod bytes;
+pub mod bytes;
 mod field;
 pub mod fnv;
 pub mod header;

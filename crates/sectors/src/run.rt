@@ -101,7 +101,7 @@ fn copy_run(format: u32, image: &[u8], first: usize, count: usize, buf: &mut [u8
     let mut k: usize = 0;
     while k < count {
         let data = stored_data(format, image, first + k);
-        copy_bytes(data, &mut buf[to..to + SECTOR_SIZE]);
+        copy_bytes(data, &mut buf[to..to + SECTOR_SIZE], 0);
         to += SECTOR_SIZE;
         k += 1;
     }

@@ -10,10 +10,15 @@ use image::no_pointer;
 use image::put;
 use image::put_four;
 use image::put_master;
+use image::put_signature;
 use image::put_table;
 use image::zeros;
 use libc::STDOUT_FILENO;
+use print::blank_work;
+use print::print_format;
 use print::print_reading;
+use print::print_refusal;
+use print::short_work;
 
 // A table of three sectors in two copies: the first lies at the image's end, so that a cut takes it and leaves the second.
 const FIRST_COPY: u16 = 520;
@@ -145,6 +150,31 @@ fn equal_lsns() {
     print_reading(&image);
 }
 
+// One work byte or one warning word too few: 2. Enough of both: 3, for an image without a sector.
+fn short_buffers() {
+    let mut work = blank_work();
+    let mut less_work = short_work();
+    let mut words = [0u32; 1537];
+    let mut less_words = [0u32; 1536];
+    io::write_all(STDOUT_FILENO, b"short_buffers\n");
+    print_refusal(&mut less_work, &mut words);
+    print_refusal(&mut work, &mut less_words);
+    print_refusal(&mut work, &mut words);
+}
+
+// The master table's signature where LSN 510 begins in format 1, then in 2 too, then in 0 too: of 1 and 2 it is 2 that is found.
+fn detection_order() {
+    let mut image = zeros();
+    io::write_all(STDOUT_FILENO, b"detection_order\n");
+    print_format(&image);
+    put_signature(&mut image, 511, 1018, *b"SACDMTOC");
+    print_format(&image);
+    put_signature(&mut image, 513, 2028, *b"SACDMTOC");
+    print_format(&image);
+    put_signature(&mut image, 510, 0, *b"SACDMTOC");
+    print_format(&image);
+}
+
 fn main() {
     sheet_cut();
     sheet_copy();
@@ -152,4 +182,6 @@ fn main() {
     sectors_128();
     sectors_129();
     equal_lsns();
+    short_buffers();
+    detection_order();
 }

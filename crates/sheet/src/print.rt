@@ -5,6 +5,7 @@ use area::area::Area;
 use area::table::MAX_TRACKS;
 use area::track::Track;
 use disc::answer::DiscAnswer;
+use disc::detect::detect_format;
 use disc::regions::TRACK_RECORDS;
 use disc::regions::WARNING_WORDS;
 use disc::regions::WORK_BYTES;
@@ -100,10 +101,17 @@ fn print_area(area: Area, tracks: [Track; TRACK_RECORDS], first: u8) {
 }
 
 // Work bytes. The contract gives only the length, which lending them needs.
-fn blank_work() -> [u8; WORK_BYTES]
+pub(crate) fn blank_work() -> [u8; WORK_BYTES]
     ensures { λ r. ⌜ 544768 ≡ length r ⌝ }
 {
     [0; WORK_BYTES]
+}
+
+// One byte less.
+pub(crate) fn short_work() -> [u8; 544767]
+    ensures { λ r. ⌜ 544767 ≡ length r ⌝ }
+{
+    [0; 544767]
 }
 
 // Reads a disc image and writes what was read.
@@ -117,4 +125,27 @@ pub(crate) fn print_reading(image: &[u8]) {
     print_warnings(&words, answer.warnings);
     print_area(answer.two_channel, tracks, 0);
     print_area(answer.multichannel, tracks, MAX_TRACKS as u8);
+}
+
+// A line of the sizes of lent memory, and the refusal of an image without a sector that is read with it.
+pub(crate) fn print_refusal(work: &mut [u8], words: &mut [u32]) {
+    io::write_all(STDOUT_FILENO, b"work");
+    print_field(work.len() as u64);
+    io::write_all(STDOUT_FILENO, b" words");
+    print_field(words.len() as u64);
+    let reading = read_disc_by_value(PLAIN, b"", work, no_tracks(), words);
+    let answer = reading.answer;
+    io::write_all(STDOUT_FILENO, b" refusal");
+    print_field(answer.refusal as u64);
+    io::write_all(STDOUT_FILENO, b"\n");
+}
+
+// A line of the refusal and the format that are found for an image.
+pub(crate) fn print_format(image: &[u8]) {
+    let found = detect_format(image);
+    io::write_all(STDOUT_FILENO, b"refusal");
+    print_field(found.refusal as u64);
+    io::write_all(STDOUT_FILENO, b" format");
+    print_field(found.sector_format as u64);
+    io::write_all(STDOUT_FILENO, b"\n");
 }

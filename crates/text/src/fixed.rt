@@ -7,6 +7,7 @@ ghost use Rattle.text.specs.Fixed.{fieldSize, fieldText, fixedOf, fixedB
 use crate::string::lesser;
 use crate::string::zero_in;
 use crate::white::trim;
+use sectors::bytes::copy_bytes;
 
 // Bytes that a field has at most.
 pub const FIELD_SIZE: usize = 16;
@@ -33,11 +34,7 @@ fn sixteen(text: &[u8]) -> [u8; FIELD_SIZE]
     ensures { λ r. ⌜ r ≡ padded fieldSize (now (text .entry)) ⌝ }
 {
     let mut bytes = [0u8; FIELD_SIZE];
-    let mut i = 0;
-    while i < text.len() {
-        bytes[i] = text[i];
-        i += 1;
-    }
+    copy_bytes(text, &mut bytes, 0);
     bytes
 }
 

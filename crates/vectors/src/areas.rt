@@ -70,6 +70,67 @@ fn largest_table_line() {
     io::write_all(STDOUT_FILENO, b"\n");
 }
 
+// A line of whether so many bytes are no lone table.
+fn odd_line(bytes: usize) {
+    io::print_decimal(STDOUT_FILENO, bytes as u64);
+    if area::lone::is_odd_table(bytes) {
+        io::write_all(STDOUT_FILENO, b" odd\n");
+        return;
+    }
+    io::write_all(STDOUT_FILENO, b" table\n");
+}
+
+// A table has up to 128 whole sectors.
+fn odd_lines() {
+    odd_line(0);
+    odd_line(2047);
+    odd_line(2048);
+    odd_line(262144);
+    odd_line(262145);
+    odd_line(264192);
+}
+
+// A line of a slot or a track number, and the refusal of its text.
+fn text_line(word: &[u8], number: u32, refusal: u8) {
+    io::write_all(STDOUT_FILENO, word);
+    io::print_decimal(STDOUT_FILENO, number as u64);
+    io::write_all(STDOUT_FILENO, b" refused ");
+    io::print_decimal(STDOUT_FILENO, refusal as u64);
+    io::write_all(STDOUT_FILENO, b"\n");
+}
+
+// A line of an area's text, absent in its table, by a record that names a slot.
+fn slot_line(table: &[u8], slot: u8) {
+    let head = area::table::table_head(table, slot, Lsn(0), 3);
+    let mut page = [0u8; 8];
+    let answer = area::decode::decode_area_text(table, head.area, 0, &mut page);
+    text_line(b"slot ", slot as u32, answer.refusal);
+}
+
+// A line of a track's text, absent too, by a record that counts 256 tracks.
+fn track_line(table: &[u8], number: u32) {
+    let head = area::table::table_head(table, 1, Lsn(0), 3);
+    let mut area = head.area;
+    area.track_count = 256;
+    let mut page = [0u8; 8];
+    let answer = area::decode::decode_of_track(table, area, 255, 0, number, 0, &mut page);
+    text_line(b"track ", number, answer.refusal);
+}
+
+// Slots 1 and 2 have areas, no other; 256 tracks count as 255.
+fn refused_text_lines() {
+    let mut table = [0u8; 6144];
+    put_signature(&mut table, 0, *b"TWOCHTOC");
+    put_signature(&mut table, 2048, *b"SACDTRL1");
+    put_signature(&mut table, 4096, *b"SACDTRL2");
+    slot_line(&table, 0);
+    slot_line(&table, 1);
+    slot_line(&table, 2);
+    slot_line(&table, 3);
+    track_line(&table, 255);
+    track_line(&table, 256);
+}
+
 pub(crate) fn cards() {
     frame_line(0, 0, 0);
     frame_line(1, 0, 0);
@@ -79,4 +140,6 @@ pub(crate) fn cards() {
     cap_line(4600, 0);
     cap_line(4500, 0);
     largest_table_line();
+    odd_lines();
+    refused_text_lines();
 }

@@ -3,7 +3,10 @@ mod areas;
 mod texts;
 
 use libc::STDOUT_FILENO;
-use sectors::header::AuditResult;
+use sectors::bytes::copy_bytes;
+use sectors::header::audit;
+use sectors::header::audit_answer;
+use sectors::run::read_sectors;
 use sectors::sector::Lsn;
 
 // A line of a digest, as 16 hexadecimal digits, and the text that it is of.
@@ -14,17 +17,25 @@ fn digest_line(text: &[u8]) {
     io::write_all(STDOUT_FILENO, b"\n");
 }
 
+// A line of a refusal's number; 0 for none.
+fn refusal_line(refusal: u8) {
+    io::write_all(STDOUT_FILENO, b"refused ");
+    io::print_decimal(STDOUT_FILENO, refusal as u64);
+    io::write_all(STDOUT_FILENO, b"\n");
+}
+
 // A line of what the audit of a sector answers.
 fn audit_line(format: u32, image: &[u8], lsn: u32) {
-    let answer = sectors::header::audit(format, image, Lsn(lsn));
-    match answer {
-        AuditResult::Sound => io::write_all(STDOUT_FILENO, b"sound\n"),
-        AuditResult::Unsound => io::write_all(STDOUT_FILENO, b"unsound\n"),
-        AuditResult::ForeignFormat => io::write_all(STDOUT_FILENO, b"refused 1\n"),
-        AuditResult::NoHeader => io::write_all(STDOUT_FILENO, b"refused 11\n"),
-        AuditResult::NoSuchEntry => io::write_all(STDOUT_FILENO, b"refused 8\n"),
+    let answer = audit_answer(audit(format, image, Lsn(lsn)));
+    if answer.refusal != 0 {
+        refusal_line(answer.refusal);
+        return;
     }
-    ;
+    if answer.sound == 1 {
+        io::write_all(STDOUT_FILENO, b"sound\n");
+        return;
+    }
+    io::write_all(STDOUT_FILENO, b"unsound\n");
 }
 
 // A line of a sector's fingerprint: the refusal, and the digest.
@@ -102,10 +113,37 @@ fn refusals() {
     fingerprint_line(3, &image, 0);
 }
 
+// A line of the refusal of one sector read into as many bytes, from a place on: one byte too few from place 1.
+fn read_line(at: usize) {
+    let image = [0u8; 2048];
+    let mut buf = [0u8; 2048];
+    refusal_line(read_sectors(0, &image, Lsn(0), 1, &mut buf, at));
+}
+
+// A line of eight full stops after three bytes were copied into them, from a place on.
+fn copy_line(at: usize) {
+    let mut page = [0x2Eu8; 8];
+    copy_bytes(b"abc", &mut page, at);
+    io::write_all(STDOUT_FILENO, &page);
+    io::write_all(STDOUT_FILENO, b"\n");
+}
+
+// What fits is copied; the last place is the largest number.
+fn copies() {
+    copy_line(0);
+    copy_line(5);
+    copy_line(6);
+    copy_line(8);
+    copy_line(0xFFFF_FFFF_FFFF_FFFF);
+}
+
 fn main() {
     digests();
     headers();
     refusals();
+    read_line(0);
+    read_line(1);
+    copies();
     texts::cards();
     areas::cards();
 }

@@ -1,7 +1,7 @@
 //! The ten sectors of a master table: fields, locales, texts, and the manufacturer's sector.
 
-use super::MASTER_SECTORS;
 use super::slots::Pointer;
+use super::{MASTER_SECTORS, MASTER_SIGNATURE};
 use crate::Rng;
 use crate::layout::DATA;
 use crate::table::{any_locale, any_string, put, put16, put32};
@@ -34,7 +34,7 @@ pub fn any_master(rng: &mut Rng, pointers: [Pointer; 2]) -> Vec<u8> {
 
 fn fill_fields(rng: &mut Rng, master: &mut [u8]) {
     rng.fill(&mut master[..180]);
-    put(master, 0, b"SACDMTOC");
+    put(master, 0, MASTER_SIGNATURE);
     if rng.below(48) == 0 {
         master[rng.below(8)] ^= rng.nonzero();
     }

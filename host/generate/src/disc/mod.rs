@@ -9,10 +9,12 @@ pub use slots::{Place, Pointer, Slot, any_slots};
 use crate::Rng;
 use crate::image::pattern;
 use crate::layout::{DATA, Layout, any_format, layout};
+use crate::table::put;
 
 /// Where the master table begins, and its sectors.
 pub const MASTER: usize = 510;
 pub const MASTER_SECTORS: usize = 10;
+pub const MASTER_SIGNATURE: &[u8; 8] = b"SACDMTOC";
 /// Where the copies of the master table begin.
 pub const MASTER_COPIES: [usize; 2] = [520, 530];
 /// The first sector behind them.
@@ -75,6 +77,7 @@ pub fn any_disc(rng: &mut Rng) -> Disc {
         disc.put(*lsn, table);
     }
     disc.put(MASTER, &master[..DATA]);
+    put_decoys(rng, &mut disc);
     put_copies(rng, &mut disc, &slots);
     damage(rng, &mut disc, &slots);
     cut(rng, &mut disc);
@@ -102,9 +105,16 @@ fn fill_gaps(rng: &mut Rng, disc: &mut Disc) {
         rng.fill(&mut sector[..data_at]);
         rng.fill(&mut sector[data_at + DATA..]);
     }
-    if data_at > 0 && rng.below(16) == 0 {
-        // Where another format has the signature: detection finds that one first.
-        crate::table::put(&mut disc.bytes, MASTER * DATA, b"SACDMTOC");
+}
+
+/// Now and then the master table's signature, or nearly it, where LSN 510 would begin in another
+/// format: detection may find that one first.
+fn put_decoys(rng: &mut Rng, disc: &mut Disc) {
+    for other in (0..3).filter_map(layout).filter(|&other| other != disc.form) {
+        if rng.below(12) == 0 {
+            let signature = rng.pick(&[MASTER_SIGNATURE, MASTER_SIGNATURE, b"SACDMTOc"]);
+            put(&mut disc.bytes, MASTER * other.stored + other.data_at, signature);
+        }
     }
 }
 
@@ -143,7 +153,8 @@ fn damage(rng: &mut Rng, disc: &mut Disc, slots: &[Slot]) {
     }
 }
 
-/// Now and then cuts the image: at a sector's end, next to it, or inside a sector.
+/// Now and then cuts the image: at a sector's end, next to it, inside a sector, or at or next to the
+/// end of the master table's signature.
 fn cut(rng: &mut Rng, disc: &mut Disc) {
     if rng.below(8) > 0 {
         return;
@@ -155,10 +166,15 @@ fn cut(rng: &mut Rng, disc: &mut Disc) {
         0 => rng.pick(&[0, below]),
         1 => rng.pick(&[behind - 1, in_master]),
         2 => behind,
+        3 => MASTER,
         _ => behind + rng.below(disc.sectors() - behind + 1),
     };
     let any = 1 + rng.below(stored - 1);
-    let inside = rng.pick(&[0, 0, 1, data_at, data_at + DATA, stored - 1, any]);
+    let signature_end = data_at + MASTER_SIGNATURE.len();
+    let inside = match sector {
+        MASTER => rng.pick(&[signature_end - 1, signature_end, signature_end, signature_end + 1]),
+        _ => rng.pick(&[0, 0, 1, data_at, data_at + DATA, stored - 1, any]),
+    };
     disc.bytes.truncate(sector * stored + inside);
     disc.bytes.shrink_to_fit();
 }

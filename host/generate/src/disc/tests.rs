@@ -32,3 +32,32 @@ fn data_stand_where_the_format_says() {
         assert_eq!((disc.sectors(), disc.data(511)), (512, &[7; DATA][..]));
     }
 }
+
+/// Whether the master table's signature stands where it would in a format.
+fn begins_in(disc: &Disc, format: u32) -> bool {
+    let form = layout(format).expect("0, 1 and 2 are formats");
+    let at = MASTER * form.stored + form.data_at;
+    disc.bytes.get(at..at + MASTER_SIGNATURE.len()).is_some_and(|part| part == MASTER_SIGNATURE)
+}
+
+#[test]
+fn every_format_has_decoys_of_every_other() {
+    for (format, other) in [(0, 1), (0, 2), (1, 0), (1, 2), (2, 0), (2, 1)] {
+        let signed = |disc: &Disc| disc.format == format && begins_in(disc, format);
+        let (decoys, others): (Vec<_>, Vec<_>) =
+            discs(1, 600).filter(signed).partition(|disc| begins_in(disc, other));
+        assert!(!decoys.is_empty() && decoys.len() < others.len(), "{other} in {format}");
+    }
+}
+
+#[test]
+fn discs_end_with_the_signature() {
+    let lengths: Vec<_> = discs(1, 3000).map(|disc| (disc.format, disc.bytes.len())).collect();
+    for format in 0..3 {
+        let Layout { stored, data_at } = layout(format).expect("0, 1 and 2 are formats");
+        let end = MASTER * stored + data_at + MASTER_SIGNATURE.len();
+        for length in [end - 1, end, end + 1] {
+            assert!(lengths.contains(&(format, length)), "{length} in {format}");
+        }
+    }
+}

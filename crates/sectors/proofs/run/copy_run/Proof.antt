@@ -6,6 +6,7 @@ use denote.Ref.{now}
 use lib.ListN.{length}
 use Rattle.sectors.specs.Fill.{fill}
 use Rattle.sectors.specs.FillLaws.{fill-none}
+use Rattle.sectors.specs.CopyLaws.{copy-over}
 use Rattle.sectors.specs.Sector.{runData}
 use Rattle.sectors.proofs.Turns.{address-bound, next-there, next-length, copy-turn}
 use borrow.Author.Needs.{needs}
@@ -45,9 +46,7 @@ part-copy-bytes-end : tie.Need-part-copy-bytes-end Inv-loop μ-loop
 part-copy-bytes-end c = search needs
 
 copy-bytes-requires : tie.Need-copy-bytes-requires Inv-loop μ-loop
-copy-bytes-requires c κs =
-    let start = c .before .before .before .before .before .before in let a = start .args in let l = c .before .before .before .loop in
-    next-length _ (now (a .image)) (a .first) _ (l .k) (start .pre .0) (c .before .before .loop-test .taken) _ (l .buf) (l .to) (c .before .stored-data .ensures .0) (omega arith)
+copy-bytes-requires c κs = search needs
 
 add-to : tie.Need-add-to Inv-loop μ-loop
 add-to c = search needs
@@ -60,12 +59,14 @@ loop-less c = search needs
 
 loop-again : tie.Need-loop-again Inv-loop μ-loop
 loop-again c =
-    let start = c .before .before .before .before .before .before .before .before .before in let a = start .args in let l = c .before .before .before .before .before .before .loop in (
+    let start = c .before .before .before .before .before .before .before .before .before in let a = start .args in let l = c .before .before .before .before .before .before .loop in
+    let more = c .before .before .before .before .before .loop-test .taken in let stored = c .before .before .before .before .stored-data .ensures .0 in
+    let size = next-length _ (now (a .image)) (a .first) _ (l .k) (start .pre .0) more _ (l .buf) (l .to) stored (omega arith) in (
       search needs,
       search needs,
       search needs,
-      copy-turn _ (now (a .image)) (a .first) _ (l .k) (start .pre .0) (c .before .before .before .before .before .loop-test .taken) (now (a .buf)) _ _ _ (l .to) (start .pre .1) (l .inv .1) (l .inv .3)
-          (c .before .before .copy-bytes .ensures ∙ c .before .before .before .before .stored-data .ensures .0),
+      copy-turn _ (now (a .image)) (a .first) _ (l .k) (start .pre .0) more (now (a .buf)) _ _ _ (l .to) (start .pre .1) (l .inv .1) (l .inv .3)
+          (c .before .before .copy-bytes .ensures ∙ copy-over _ _ size ∙ stored),
     )
 
 same-length : tie.Need-same-length Inv-loop μ-loop
