@@ -1,2 +1,4 @@
 pub mod Lent
 pub mod Locals
+pub mod Call
+pub mod Struct
