@@ -16,7 +16,7 @@ use base.Logic.{SProp, ent, sep, id⊢, via, comm∗, monoR, assoc∗, assoc′}
 use base.Fml.{Fml, ftrue, ffalse, feq, flt, fsep, fand, for, fwand, fex, fall, fupd, fat, froom, fdies, flft, fdead, fobs, fauth, fres, fbor, fobor, flent, fshr-bor}
 use prog.Wp.{Heap, Env, Calls, Loops, WpFn}
 use ghost.Atoms.{Atoms}
-use types.Kit.{Given, Item, ‵, raw, _⊛_, some, given, later, ⋆, push, pop, ++⊢, ⊢++, Goal, prop, runs, atRet, allocs, passes, frees, aim, params′, Seq, Sq, Step, step, _$_, _∵_, Go, !, qed, by, move, split, join, use1}
+use types.Kit.{Given, Item, ‵, raw, _⊛_, some, given, later, ⋆, push, pop, ++⊢, ⊢++, Goal, prop, runs, atRet, allocs, passes, frees, aim, params′, Seq, Sq, Step, step, _$_, _∵_, !, qed, by, move, split, join, use1}
 use types.Run.{enter, alloc1, alloc0, params1, pass1, pass0, init, forget, free1, free0}
 
 abbrev pub Places : List Ty → Type 0
@@ -128,46 +128,48 @@ module _ {M : Type 1} {𝓤 : URA M} {H : Heap 𝓤} {A : Atoms 𝓤} (W : Given
       let rest : Sq W ((‵ (fat fullShare (x .0) (x .1) zero v) ⊛ ‵ (fdies (x .0) (x .1))) ∷ raw (S (filled 𝓤 vs E ++ (deaths 𝓤 E ++ Γ))) ∷ []) (frees (x ∷ E) g) = split ! $ forget ! 0 refl $ free1 ! $ by ! (freed g E vs Γ e s .prf) in
       by ! (via 𝓤 _ (takes-back (‵ (fat fullShare (x .0) (x .1) zero v)) (‵ (fdies (x .0) (x .1))) (filled 𝓤 vs E) (deaths 𝓤 E) Γ) (rest .prf))
 
-  -- the value in an entry that is a cell
-  abbrev held : Fml → Val
-  held (fat q τ b o v) = v
-  held ftrue = vunit
-  held ffalse = vunit
-  held (feq X x y) = vunit
-  held (flt m n) = vunit
-  held (fsep P Q) = vunit
-  held (fand P Q) = vunit
-  held (for P Q) = vunit
-  held (fwand P Q) = vunit
-  held (fex X F) = vunit
-  held (fall X F) = vunit
-  held (fupd P) = vunit
-  held (froom τ b o) = vunit
-  held (fdies τ b) = vunit
-  held (flft κ q) = vunit
-  held (fdead κ) = vunit
-  held (fobs γ x) = vunit
-  held (fauth γ x) = vunit
-  held (fres γ x) = vunit
-  held (fbor κ P) = vunit
-  held (fobor κ q P) = vunit
-  held (flent κ P) = vunit
-  held (fshr-bor κ F) = vunit
+-- the value in an entry that is a cell
+abbrev held : Fml → Val
+held (fat q τ b o v) = v
+held ftrue = vunit
+held ffalse = vunit
+held (feq X x y) = vunit
+held (flt m n) = vunit
+held (fsep P Q) = vunit
+held (fand P Q) = vunit
+held (for P Q) = vunit
+held (fwand P Q) = vunit
+held (fex X F) = vunit
+held (fall X F) = vunit
+held (fupd P) = vunit
+held (froom τ b o) = vunit
+held (fdies τ b) = vunit
+held (flft κ q) = vunit
+held (fdead κ) = vunit
+held (fobs γ x) = vunit
+held (fauth γ x) = vunit
+held (fres γ x) = vunit
+held (fbor κ P) = vunit
+held (fobor κ q P) = vunit
+held (flent κ P) = vunit
+held (fshr-bor κ F) = vunit
 
-  abbrev value : Item 𝓤 → Val
-  value (‵ P) = held P
-  value (raw P) = vunit
-  value (i ⊛ j) = vunit
-  value (some F) = vunit
-  value (given φ i) = vunit
-  value (later i) = vunit
+abbrev value : {M : Type 1} {𝓤 : URA M} → Item 𝓤 → Val
+value (‵ P) = held P
+value (raw P) = vunit
+value (i ⊛ j) = vunit
+value (some F) = vunit
+value (given φ i) = vunit
+value (later i) = vunit
 
-  abbrev values : List (Ty × ℕ) → List (Item 𝓤) → List Val
-  values [] Γ = []
-  values (e ∷ E) [] = []
-  values (e ∷ E) (i ∷ Γ) = value i ∷ values E Γ
+abbrev values : {M : Type 1} {𝓤 : URA M} → List (Ty × ℕ) → List (Item 𝓤) → List Val
+values [] Γ = []
+values (e ∷ E) [] = []
+values (e ∷ E) (i ∷ Γ) = value i ∷ values E Γ
 
-  pub leaves : (k : ℕ) {E : Env 𝓤 H} {g : Goal 𝓤 H} {Γ : List (Item 𝓤)} → Γ ≡ take k Γ ++ (filled 𝓤 (values E (skip k Γ)) E ++ deaths 𝓤 E) → Full (values E (skip k Γ)) E
-      → Step (Go {0}) W (take k Γ) g Γ (frees E g)
-  leaves k {E} {g} {Γ} e full = step (λ s. by ! (via 𝓤 (S (take k Γ ++ (filled 𝓤 (values E (skip k Γ)) E ++ deaths 𝓤 E))) (subst (λ (X : List (Item 𝓤)). ent 𝓤 (S Γ) (S X)) e (id⊢ 𝓤 (S Γ)))
-      (via 𝓤 _ (turns-back (filled 𝓤 (values E (skip k Γ)) E) (deaths 𝓤 E) (take k Γ)) (freed g E (values E (skip k Γ)) (take k Γ) full s .prf))))
+pub leaves : {M : Type 1} {𝓤 : URA M} {H : Heap 𝓤} {A : Atoms 𝓤} {K : Type 0} {W : Given 𝓤 H A} → K → (k : ℕ) {E : Env 𝓤 H} {g : Goal 𝓤 H} {Γ : List (Item 𝓤)} → Γ ≡ take k Γ ++ (filled 𝓤 (values E (skip k Γ)) E ++ deaths 𝓤 E) → Full (values E (skip k Γ)) E
+    → Step K W (take k Γ) g Γ (frees E g)
+leaves {𝓤 = 𝓤} {H = H} {A = A} {W = W} t k {E} {g} {Γ} e full =
+    let S : List (Item 𝓤) → SProp 𝓤 = ⋆ 𝓤 H A in
+    step (λ s. by t (via 𝓤 (S (take k Γ ++ (filled 𝓤 (values E (skip k Γ)) E ++ deaths 𝓤 E))) (subst (λ (X : List (Item 𝓤)). ent 𝓤 (S Γ) (S X)) e (id⊢ 𝓤 (S Γ)))
+    (via 𝓤 _ (turns-back W (filled 𝓤 (values E (skip k Γ)) E) (deaths 𝓤 E) (take k Γ)) (freed W g E (values E (skip k Γ)) (take k Γ) full (by ! (s .prf)) .prf))))
