@@ -124,16 +124,25 @@ module _ {M : Type 1} {𝓤 : URA M} {H : Heap 𝓤} {A : Atoms 𝓤} (W : Given
   taken (given R κ x ∷ ps) = via 𝓤 _ (monoR 𝓤 (sem 𝓤 H A (MutSlice erased κ R .own x (slice-vals x))) (taken ps)) (push 𝓤 H A (‵ (MutSlice erased κ R .own x (slice-vals x))) (had ps))
 
   module _ (n : ℕ) (κs : Lfts n) (qs : Shares n) (ps : List (Arg 𝓤 H A)) where
+    -- the context in which the body begins
+    abbrev pub entry : (τs : List Ty) → Places τs → List (Item 𝓤)
+    entry [] bs = []
+    entry (τ₀ ∷ τs) bs = (tokens 𝓤 n κs qs ++ had ps) ++ (‵ (froom τ₀ (bs .0) zero) ∷ (filled 𝓤 (flat (rows ps) (wordss ps)) (env τs (bs .1)) ++ deaths 𝓤 (env (τ₀ ∷ τs) bs)))
+
     pub begins : (C : Calls 𝓤 H) (Λ : Loops 𝓤 H) (f : Fn) (τ₀ : Ty) (h : Home) (ls : List Local) → f .locals ≡ local τ₀ h ∷ ls → Typed (tys ls) (flat (rows ps) (wordss ps)) → (Kf : Val → SProp 𝓤)
-        → ((bs : Places (τ₀ ∷ tys ls)) → Sq W ((tokens 𝓤 n κs qs ++ had ps) ++ (‵ (froom τ₀ (bs .0) zero) ∷ (filled 𝓤 (flat (rows ps) (wordss ps)) (env (tys ls) (bs .1)) ++ deaths 𝓤 (env (τ₀ ∷ tys ls) bs)))) (runs C Λ (env (τ₀ ∷ tys ls) bs) (f .body) (atRet (env (τ₀ ∷ tys ls) bs) Kf)))
+        → ((bs : Places (τ₀ ∷ tys ls)) → Sq W (entry (τ₀ ∷ tys ls) bs) (runs C Λ (env (τ₀ ∷ tys ls) bs) (f .body) (atRet (env (τ₀ ∷ tys ls) bs) Kf)))
         → ent 𝓤 (sep 𝓤 (toks 𝓤 A n κs qs) (sem 𝓤 H A (owns (rows ps) (values ps) (wordss ps)))) (WpFn 𝓤 H C Λ f (flat (rows ps) (wordss ps)) Kf)
     begins C Λ f τ₀ h ls e wt Kf k = via 𝓤 _ (mono∗ 𝓤 (each-alive W n κs qs) (taken ps)) (via 𝓤 _ (++⊢ 𝓤 H A (tokens 𝓤 n κs qs) (had ps)) (enters W C Λ f τ₀ h ls e (flat (rows ps) (wordss ps)) wt Kf (tokens 𝓤 n κs qs ++ had ps) k))
+
+    -- what is had when the function ends
+    abbrev pub AtEnd : Lasts ps → SProp 𝓤
+    AtEnd ws = S (tokens 𝓤 n κs qs ++ kept ps ws)
 
     module _ (R : RattleType) (P : Rel R) (makes : Makes 𝓤 H A R P) (F : R .Denot → Lasts ps → Type 0) (v : Val) where
       abbrev Ending : (r : R .Denot) → Lasts ps → SProp 𝓤
       Ending r ws = sep 𝓤 (sep 𝓤 (sep 𝓤 (toks 𝓤 A n κs qs) (sep 𝓤 (sem 𝓤 H A (has ps ws)) (sem 𝓤 H A (R .own r (v ∷ []))))) (fact 𝓤 (F r ws))) (fact 𝓤 (Fits ps ws))
 
-      pub finishes : (r : R .Denot) (ws : Lasts ps) → P r (v ∷ []) → F r ws → Longs ps ws → ent 𝓤 (S (tokens 𝓤 n κs qs ++ kept ps ws)) (H .⇛ (ex 𝓤 (λ (s : R .Denot). ex 𝓤 (Ending s))))
+      pub finishes : (r : R .Denot) (ws : Lasts ps) → P r (v ∷ []) → F r ws → Longs ps ws → ent 𝓤 (AtEnd ws) (H .⇛ (ex 𝓤 (λ (s : R .Denot). ex 𝓤 (Ending s))))
       finishes r ws is f ls = via 𝓤 _ (⊢++ 𝓤 H A (tokens 𝓤 n κs qs) (kept ps ws)) (via 𝓤 _ (mono∗ 𝓤 (alive W n κs qs) (all-kept ps ws))
           (qed W (raw (toks 𝓤 A n κs qs) ∷ ‵ (has ps ws) ∷ []) ∵ updating ! $ at-once ! $ show ! (λ (s : R .Denot). ex 𝓤 (Ending s)) r $ show ! (Ending r) ws $ says ! (fits ps ws ls) $ says ! f $
           frame ! $ frame ! $ owned ! R P makes r (v ∷ []) is $ done !))

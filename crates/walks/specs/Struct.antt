@@ -36,7 +36,7 @@ pub still : {R : RattleType} {τ : Ty} {val : R .Denot → Val} (s : Struct R τ
 still s x v is = subst (λ (u : Val). s .has x (u ∷ [])) (s .told x v is) is
 
 module _ (D : Declared) (L : LL.Laws D) (plain : Plains (fields D)) (τ : Ty) (is-type : (v : Val) → Typed (row D .mir) (v ∷ []) → T (hasTy τ v) × WT v) where
-  pub struct-laws : (val : D .D → Val) → ((x : D .D) → LL.val D L x ≡ val x) → Struct (row D) τ val
+  abbrev pub struct-laws : (val : D .D → Val) → ((x : D .D) → LL.val D L x ≡ val x) → Struct (row D) τ val
   struct-laws val same = record {
     has = Is (row D);
     told = λ x v is. ap only (LL.tells D L x (v ∷ []) is) ∙ same x;
@@ -45,5 +45,5 @@ module _ (D : Declared) (L : LL.Laws D) (plain : Plains (fields D)) (τ : Ty) (i
     shows = λ 𝓤 H A. all-show 𝓤 H A (row D);
   }
 
-  pub shut : Shut (row D)
+  abbrev pub shut : Shut (row D)
   shut = record { ty = τ; val = LL.val D L; laws = struct-laws (LL.val D L) (λ x. refl) }

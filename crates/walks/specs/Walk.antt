@@ -20,7 +20,7 @@ pub use types.Kit.{Given, Sq, runs, atRet, _$_, !, by, move, keep, drop}
 pub use types.Tokens.{lft-new, lft-end}
 pub use types.Run.{look, lit, stop, from, of-opd, and-then, no-more, assigns, init, store, returns}
 pub use sound.WpLaws.{WpFn-mono, FmC, fmOf}
-pub use denote.RattleType.{RattleType}
+pub use denote.RattleType.{RattleType, flat}
 pub use denote.Laws.{Is, shows}
 pub use denote.Memory.{pointee}
 pub use denote.Plain.{uint-makes, uint-lawful, uint-vals, uint-tells}
