@@ -14,6 +14,7 @@ pub use prog.Memory.{Memory}
 pub use prog.Routine.{Routine}
 pub use prog.Wp.{Heap, WpFn, Tables}
 pub use ghost.Atoms.{Atoms}
+pub use contract.Lifetimes.{Lfts, Shares}
 pub use contract.Monad.{Fun}
 pub use contract.Running.{givenOf, tables}
 pub use types.Kit.{Given, Sq, runs, atRet, _$_, !, by, move, keep, drop}
