@@ -1,4 +1,3 @@
-pub mod Again
 pub mod Elem
 pub mod Filling
 pub mod Keeping

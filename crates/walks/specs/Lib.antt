@@ -1,3 +1,10 @@
+pub mod Lent
+pub mod Locals
+pub mod Call
+pub mod Struct
+pub mod Steps
+pub mod Function
+pub mod Walk
 pub mod Handing
 pub mod Statement
 pub mod Forward

@@ -51,7 +51,7 @@ use Rattle.area.specs.Warning.{wordOf}
 use Rattle.area.specs.declared.table.NextTrack.{NextTrack}
 use Rattle.area.specs.declared.table.TableHead.{TableHead}
 use Rattle.area.specs.declared.track.Track.{Track}
-use Rattle.area.proofs.Again.{LentAgain, lends-again, comes-back}
+use Rattle.walks.specs.Lent.{lends, comes-back}
 use Rattle.area.proofs.Elem.{R, name, makes, ty, val}
 use Rattle.area.proofs.Filling.{few-tracks, tracksTo, length-tracks, tracks-none, tracks-more, tracks-all, countTo, count-fits as to-fits, count-none, count-more, count-all, wordsTo, length-words, words-none, words-more, words-all}
 use Rattle.area.proofs.table.NextTrack as Nt
@@ -375,7 +375,7 @@ module _ {M : Type 1} (𝓤 : URA M) (H : Heap 𝓤) (A : Atoms 𝓤) (W : Given
         assigns ! (addr ! (from ! (fld ! refl (hop ! (look-in ! 10 (sub ! 0 refl (whole !))) (stop !))))) (from ! (stop !)) (init ! 18 refl (tt, tt)) $
         assigns ! (agg ! (and-then ! (load ! (from ! (stop !)) (look ! 18 refl)) (and-then ! (load ! (from ! (fld ! refl (stop !))) (look-in ! 10 (sub ! 1 refl (whole !)))) (no-more !)))) (from ! (stop !)) (init ! 19 refl (tt, (tt, (record { fits = words-room .0 }, tt)))) $
         lft-new ! tt (λ ν. move ! (3 ∷ 4 ∷ []) $
-        use2 W (later (some (λ (δ : GName). ‵ (WordsLent ν δ i) ⊛ ‵ (LentAgain u32 θ (ν ∷ []) p η c d δ (words-at i))))) (lends-again u32 θ (ν ∷ []) p η c d 𝓤 H A W (named 2) (named 1) (words-at i)) $ await ! tt $ pick ! (λ δ. split ! $
+        lends ! tt u32 θ p (ν ∷ []) (words η (words-at i)) (λ δ.
         -- [the words lent; their lender's part; ν's token; what tracks owns; ι's token; what table owns; κ's token; _1; … _17; _0; …]
         move ! (5 ∷ []) $ use1 W (‵ Own ⊛ ‵ Own) (shr-slice-copy 𝓤 H A W (named 0) κ u8 .twice s (sv ∷ [])) $ split ! $ move ! (7 ∷ 4 ∷ 0 ∷ 2 ∷ []) $
         cut {W = W} (‵ (flft κ q) ∷ ‵ (flft (ν ∷ []) fullShare) ∷ ‵ Own ∷ ‵ (WordsLent ν δ i) ∷ []) (raw (Next 𝓤 H A mem run .pre (to-next ν δ i)) ∷ []) _ (asks-next ν δ i i-fits) $
@@ -385,16 +385,16 @@ module _ {M : Type 1} (𝓤 : URA M) (H : Heap 𝓤) (A : Atoms 𝓤) (W : Given
         -- [ν's token; the words' last list; κ's token; what table owns; the lender's part; what tracks owns; ι's token; _1; … _17; _0; …]: the lifetime is ended, and words comes back at that list
         land ! (from ! (stop !)) (init ! 17 refl (next-typed 𝓤 H A W w (z .0) (e .0))) $ rewrite ! 17 (λ (u : Val). ‵ (fat fullShare next-ty l₁₁ 0 u)) (next-told (z .0) w (e .0)) refl $
         lft-end ! tt $ move ! (0 ∷ 4 ∷ 1 ∷ []) $
-        use3 W (later (‵ (Words (z .1) (wv (words-at i))) ⊛ ‵ (flft θ p))) (comes-back u32 θ (ν ∷ []) p η c d 𝓤 H A W (named 2) (named 1) (words-at i) δ (z .1) words-room (e .1 .1)) $ await ! tt $ split ! $
+        comes-back ! tt u32 θ p (ν ∷ []) (words η (words-at i)) δ (z .1) (λ _.
         move ! (4 ∷ 5 ∷ 0 ∷ 1 ∷ 3 ∷ 2 ∷ []) $
         -- [what tracks owns; ι's token; what words owns; θ's token; what table owns; κ's token; _1; … _17; _0; …]
-        rewrite ! 2 (λ (m : ℕ). ‵ (Words (z .1) (sliceVal (c, d) m))) (sym (e .1 .1)) refl $ rewrite ! 10 (λ (m : ℕ). ‵ (fat fullShare slice₅ l₅ 0 (sliceVal (c, d) m))) (sym (e .1 .1)) refl $
+        rewrite ! 10 (λ (m : ℕ). ‵ (fat fullShare slice₅ l₅ 0 (sliceVal (c, d) m))) (sym (e .1 .1)) refl $
         rewrite ! 2 (λ (l : List ℕ). ‵ (Words l (wv l))) (e .1 .0 .2 ∙ words-more (s .now) head olds count i) refl $ rewrite ! 10 (λ (l : List ℕ). ‵ (fat fullShare slice₅ l₅ 0 (wv l))) (e .1 .0 .2 ∙ words-more (s .now) head olds count i) refl $
         -- `&mut *tracks`, lent again for a lifetime ν of the call of `put_track`
         assigns ! (addr ! (from ! (fld ! refl (hop ! (look-in ! 8 (sub ! 0 refl (whole !))) (stop !))))) (from ! (stop !)) (init ! 21 refl (tt, tt)) $
         assigns ! (agg ! (and-then ! (load ! (from ! (stop !)) (look ! 21 refl)) (and-then ! (load ! (from ! (fld ! refl (stop !))) (look-in ! 8 (sub ! 1 refl (whole !)))) (no-more !)))) (from ! (stop !)) (init ! 22 refl (tt, (tt, (record { fits = tracks-room .0 }, tt)))) $
         lft-new ! tt (λ ν. move ! (1 ∷ 2 ∷ []) $
-        use2 W (later (some (λ (δ : GName). ‵ (TracksLent ν δ i (z .0 .track)) ⊛ ‵ (LentAgain R ι (ν ∷ []) r γ b o δ (tracks-at i))))) (lends-again R ι (ν ∷ []) r γ b o 𝓤 H A W (named 1) (named 0) (tracks-at i)) $ await ! tt $ pick ! (λ δ. split ! $
+        lends ! tt R ι r (ν ∷ []) (tracks γ (tracks-at i)) (λ δ.
         -- [the tracks lent; their lender's part; ν's token; what words owns; θ's token; what table owns; κ's token; _1; … _17; _0; …]
         move ! (2 ∷ 0 ∷ []) $ use2 W (raw (Put 𝓤 H A mem run .pre (to-put ν δ i (z .0 .track)))) (asks-put ν δ i (z .0 .track) (next-track-is (z .0) w (e .0)) at-fits) $
         calls-at ! fm (Put 𝓤 H A mem run) known-put (to-put ν δ i (z .0 .track)) (and-then ! (load ! (from ! (stop !)) (look ! 22 refl)) (and-then ! (load ! (from ! (stop !)) (look ! 13 refl)) (and-then ! (load ! (from ! (fld ! refl (stop !))) (look-in ! 16 (sub ! 0 refl (whole !)))) (no-more !)))) (λ u.
@@ -402,8 +402,8 @@ module _ {M : Type 1} (𝓤 : URA M) (H : Heap 𝓤) (A : Atoms 𝓤) (W : Given
         -- [ν's token; the tracks' last list; the lender's part; what words owns; θ's token; what table owns; κ's token; _1; … _17; _0; …]: the lifetime is ended, and tracks comes back at that list
         land ! (from ! (stop !)) (init ! 21 refl (subst (λ (v : Val). T (hasTy tyUnit v) × WT v) (sym (ap only (f .0))) (tt, tt))) $
         lft-end ! tt $ move ! (0 ∷ 2 ∷ 1 ∷ []) $
-        use3 W (later (‵ (Tracks l (tv (tracks-at i))) ⊛ ‵ (flft ι r))) (comes-back R ι (ν ∷ []) r γ b o 𝓤 H A W (named 1) (named 0) (tracks-at i) δ l tracks-room (f .1 .1)) $ await ! tt $ split ! $
-        rewrite ! 0 (λ (m : ℕ). ‵ (Tracks l (sliceVal (b, o) m))) (sym (f .1 .1)) refl $ rewrite ! 8 (λ (m : ℕ). ‵ (fat fullShare slice₃ l₃ 0 (sliceVal (b, o) m))) (sym (f .1 .1)) refl $
+        comes-back ! tt R ι r (ν ∷ []) (tracks γ (tracks-at i)) δ l (λ _.
+        rewrite ! 8 (λ (m : ℕ). ‵ (fat fullShare slice₃ l₃ 0 (sliceVal (b, o) m))) (sym (f .1 .1)) refl $
         rewrite ! 0 (λ (l : List Track). ‵ (Tracks l (tv l))) (f .1 .0 ∙ put-more (z .0) (e .1 .0 .0)) refl $ rewrite ! 8 (λ (l : List Track). ‵ (fat fullShare slice₃ l₃ 0 (tv l))) (f .1 .0 ∙ put-more (z .0) (e .1 .0 .0)) refl $
         -- the count, the place and the index
         assigns ! (of-opd ! (load ! (from ! (fld ! refl (stop !))) (look-in ! 16 (sub ! 1 refl (whole !))))) (from ! (stop !)) (store ! 14 refl (tt, record { fits = next-count (z .0) w (e .0) })) $
@@ -412,7 +412,7 @@ module _ {M : Type 1} (𝓤 : URA M) (H : Heap 𝓤) (A : Atoms 𝓤) (W : Given
         rewrite ! 13 (λ (m : ℕ). ‵ (fat fullShare (tyInt w64) l₈ 0 (vint w64 m))) next-place refl $
         assigns-last ! (bin ! (load ! (from ! (stop !)) (look ! 15 refl)) (lit ! tt) (record { fits = more-fits })) (from ! (stop !)) (store ! 15 refl (tt, record { fits = more-fits })) $
         forget ! 16 refl $ forget ! 17 refl $ forget ! 18 refl $ forget ! 19 refl $ forget ! 20 refl $ forget ! 21 refl $ forget ! 22 refl $
-        again ! Fewer At state (record { i = i + 1; within = lt-next }) (omega (arith, lt))))))))))))
+        again ! Fewer At state (record { i = i + 1; within = lt-next }) (omega (arith, lt))))))))))))))
       where
         i : ℕ
         i = state .i
