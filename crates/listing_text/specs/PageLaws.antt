@@ -10,8 +10,13 @@ use mathlib.Core.Path.{_≡_, refl, ap, subst, _∙_}
 use borrow.Author.Tests.{ltb-true, ltb-false}
 use lib.Dec.{ltb}
 use lib.ListN.{length, getD, take, length-append, length-take}
+use lib.Seq.{sets}
+use Rattle.sectors.specs.Fill.{fill}
+use Rattle.sectors.specs.FillLaws.{sets-fill}
 use Rattle.area.specs.Area.{addressed}
 use Rattle.area.specs.BoundLaws.{SmallLocale, SmallTrack, SmallWarning, Bounds, kept-bounded}
+use Rattle.area.specs.Lent.{counted}
+use Rattle.area.specs.LentLaws.{counted-all}
 use Rattle.area.specs.Limits.{maxTracks}
 use Rattle.area.specs.Lone.{isOddTable, loneOf, loneSlot, loneSectors, tableWords, reads}
 use Rattle.area.specs.LoneLaws.{lone-room, lone-reads}
@@ -154,3 +159,12 @@ listing-fits table bytes = go (ltb maxListed (length table) || isOddTable (lengt
         let sized = or-right (ltb maxListed (length table)) (isOddTable (length table)) e in
         kept (ltb-false maxListed (length table) (or-left (ltb maxListed (length table)) (isOddTable (length table)) e))
         (lone-reads table maxTracks tableWords sized lone-room) (ℕ-discrete (skipOf table) 0)
+
+-- what is written of it to a page, and how much is counted, where no more is written than fits: all
+pub whole-listing : (table page : List ℕ) → ((i : ℕ) → getD table i 0 < 256) → length page ≡ listingPage → {last : List ℕ} {end : ℕ}
+    → (last ≡ sets page 0 (listingOf table)) × (end ≡ counted page 0 (listingOf table))
+    → (last ≡ fill 0 (listingOf table) page) × ((end ≡ length (listingOf table)) × (end ≤ listingPage))
+whole-listing table page bytes size e =
+    let fits = listing-fits table bytes in
+    let all = e .1 ∙ counted-all page 0 (listingOf table) (omega arith) in
+    (e .0 ∙ sets-fill 0 (listingOf table) page (omega arith), (all, omega (arith, all)))
