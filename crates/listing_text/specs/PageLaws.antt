@@ -2,6 +2,7 @@
 -- Assumes nothing.
 use Prim.Native.Nat.{ℕ, zero, suc, _+_, _*_, _/_, _%_, _≤_, _<_}
 use native.Mathlib.Decide.{ℕ-discrete}
+use native.Mathlib.Nat.{zero-add}
 use native.Mathlib.Omega.{arith}
 use mathlib.Core.Bool.{Bool, true, false, _||_}
 use mathlib.Core.List.{List, [], _∷_, _++_, flatMap, List·Memᴰ, List·Memᴰ·head, List·Memᴰ·tail, List·Memᴰ·not-nil, List·Memᴰ·cases-cons}
@@ -166,5 +167,5 @@ pub whole-listing : (table page : List ℕ) → ((i : ℕ) → getD table i 0 < 
     → (last ≡ fill 0 (listingOf table) page) × ((end ≡ length (listingOf table)) × (end ≤ listingPage))
 whole-listing table page bytes size e =
     let fits = listing-fits table bytes in
-    let all = e .1 ∙ counted-all page 0 (listingOf table) (omega arith) in
+    let all = e .1 ∙ counted-all page 0 (listingOf table) (omega arith) ∙ zero-add (length (listingOf table)) in
     (e .0 ∙ sets-fill 0 (listingOf table) page (omega arith), (all, omega (arith, all)))
