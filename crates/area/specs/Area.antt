@@ -56,7 +56,7 @@ areaTexts = 4
 abbrev pub areaTextsOffset : ℕ
 areaTextsOffset = 144
 
--- whether a text stands at an offset: 0 is none
+-- whether no text stands at an offset: none does at 0
 unfoldable pub isAbsent : List ℕ → ℕ → Bool
 isAbsent table offset = eqb offset 0 || not (present (stringAt table offset))
 

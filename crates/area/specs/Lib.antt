@@ -24,7 +24,9 @@ pub mod Track
 pub mod TrackLaws
 pub mod Table
 pub mod WarningLaws
+pub mod BoundLaws
 pub mod TableLaws
+pub mod ServeLaws
 pub mod Lone
 pub mod Plan
 pub mod LoneLaws

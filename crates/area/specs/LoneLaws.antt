@@ -72,7 +72,7 @@ module _ (table : List ℕ) (records words : ℕ) where
   lone-short sized short = simp (sized, short)
 
   module _ (sized : isOddTable (length table) ≡ false) (room : isShort records words ≡ false) where
-    lone-reads : loneOf table records words ≡ reads (areaOf table loneSlot 0 (loneSectors table))
+    pub lone-reads : loneOf table records words ≡ reads (areaOf table loneSlot 0 (loneSectors table))
     unfolding loneOf
     lone-reads = simp (sized, room)
 

@@ -3,17 +3,17 @@ use Prim.Native.Nat.{ℕ, _*_, _≤_}
 use native.Mathlib.Omega.{arith}
 use mathlib.Core.Bool.{Bool, true, false, cond}
 use mathlib.Core.List.{List}
-use mathlib.Core.Logic.{_⊎_, inl, inr}
+use mathlib.Core.Logic.{_≢_, _⊎_, inl, inr}
 use mathlib.Core.Path.{_≡_, refl, sym, ap, _∙_}
 use lib.Dec.{eqb}
 use lib.ListN.{length, getD}
-use borrow.Author.Tests.{le-ltb}
+use borrow.Author.Tests.{le-ltb, ne-eqb}
 use Rattle.sectors.specs.Format.{sectorSize}
 use Rattle.sectors.specs.Number.{beAt}
 use Rattle.sectors.specs.Signature.{signedAt}
 use Rattle.sectors.specs.SignatureLaws.{signed-other}
 use Rattle.area.specs.Units.{lsnAt}
-use Rattle.area.specs.Area.{twoChannelSignature, kindOf, audioStartOffset, audioEndOffset}
+use Rattle.area.specs.Area.{twoChannelSignature, multichannelSignature, kindOf, audioStartOffset, audioEndOffset}
 use Rattle.area.specs.Chain.{trackTextSignature, isrcGenreSignature, accessSignature, trackList1Signature, trackList2Signature, structureAt, sectorsOf, noted, walkFrom, nothingKept, chainOf}
 use Rattle.area.specs.declared.chain.Structure.the-variants.{TrackList1, TrackList2}
 use Rattle.area.specs.Warning.{areaSignatureInvalid, areaTrackListMissing, areaTocMalformed, areaAudioRangeReversed}
@@ -39,14 +39,29 @@ skip-code table =
     let c = chainOf table in
     first-code (eqb (kindOf table) 0) (listMissing c) (isMalformed table c) (isReversed (lsnAt table audioStartOffset) (lsnAt table audioEndOffset))
 
+-- ---- the signature: "Either signature serves either slot."
+module _ (table : List ℕ) where
+  pub two-channel-serves : signedAt table 0 twoChannelSignature ≡ true → kindOf table ≢ 0
+  unfolding kindOf
+  two-channel-serves signed = rw signed (omega arith)
+
+  pub multichannel-serves : signedAt table 0 multichannelSignature ≡ true → kindOf table ≢ 0
+  unfolding kindOf
+  multichannel-serves signed = rw signed (go (signedAt table 0 twoChannelSignature))
+    where
+      go : (t : Bool) → _≢_ {A = ℕ} (cond t 1 2) 0
+      go true = omega arith
+      go false = omega arith
+
+  -- "signature neither `TWOCHTOC` nor `MULCHTOC`, 8"
+  pub unsigned-skipped : signedAt table 0 twoChannelSignature ≡ false → signedAt table 0 multichannelSignature ≡ false → skipOf table ≡ areaSignatureInvalid
+  unfolding skipOf skipBy kindOf
+  unsigned-skipped two multi = rw (two, multi)
+
 -- ---- a table that is not skipped: three sectors, a list of tracks in each of the last two
-module _ (table : List ℕ) (long : length table ≡ 3 * sectorSize) (signed : signedAt table 0 twoChannelSignature ≡ true)
+module _ (table : List ℕ) (long : length table ≡ 3 * sectorSize) (signed : kindOf table ≢ 0)
     (first : signedAt table sectorSize trackList1Signature ≡ true) (second : signedAt table (2 * sectorSize) trackList2Signature ≡ true)
     (ordered : beAt table audioStartOffset 4 ≤ beAt table audioEndOffset 4) where
-  kind-two : kindOf table ≡ 1
-  unfolding kindOf
-  kind-two = rw signed
-
   -- which structure a signature names, where it differs from the ones tried before
   module _ (at : ℕ) (signature : List ℕ) (eight : length signature ≡ 8) (here : signedAt table at signature ≡ true) where
     other : (tried : List ℕ) → length tried ≡ 8 → (i : ℕ) → (getD signature i 0 ≡ getD tried i 0 → ⊥) → signedAt table at tried ≡ false
@@ -76,4 +91,4 @@ module _ (table : List ℕ) (long : length table ≡ 3 * sectorSize) (signed : s
 
   pub skip-none : skipOf table ≡ 0
   unfolding skipOf skipBy listMissing isMalformed isReversed lsnAt
-  skip-none = rw (kind-two, chain-two, le-ltb (beAt table audioEndOffset 4) (beAt table audioStartOffset 4) ordered)
+  skip-none = rw (ne-eqb (kindOf table) 0 signed, chain-two, le-ltb (beAt table audioEndOffset 4) (beAt table audioStartOffset 4) ordered)

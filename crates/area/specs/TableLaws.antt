@@ -3,7 +3,7 @@
 use mathlib.Core.Path.{_≡_, refl, sym, ap, _∙_, subst}
 use mathlib.Core.Bool.{Bool, true, false, cond, not}
 use mathlib.Core.Logic.{_⊎_, inl, inr}
-use mathlib.Core.List.{List, [], _∷_, _++_, map, flatMap}
+use mathlib.Core.List.{List, [], _∷_, _++_, map, flatMap, List·Memᴰ, List·Memᴰ·head, List·Memᴰ·tail}
 use Prim.Native.Nat.{ℕ, _+_, _*_, _≤_, _<_, min}
 use native.Mathlib.Omega.{arith}
 use lib.Dec.{eqb}
@@ -54,17 +54,18 @@ track-warnings-few slot read =
     three-few (read .«past_playtime») (read .«outside_area») (not (eqb (read .«text_warning») 0))
     (ofTrack trackPastPlaytime slot read) (ofTrack trackLsnOutsideArea slot read) (ofTrack (read .«text_warning») slot read)
 
-flat-few : {A B : Type 0} (f : A → List B) (n : ℕ) → ((x : A) → length (f x) ≤ n) → (xs : List A) → length (flatMap f xs) ≤ length xs * n
+-- lists of so many entries at most, one after another
+pub flat-few : {A B : Type 0} (f : A → List B) (n : ℕ) (xs : List A) → ((x : A) → List·Memᴰ x xs → length (f x) ≤ n) → length (flatMap f xs) ≤ length xs * n
 unfolding flatMap
-flat-few f n few [] = let e : length (flatMap f []) ≡ 0 = refl in omega (arith, e)
-flat-few f n few (x ∷ xs) =
+flat-few f n [] few = let e : length (flatMap f []) ≡ 0 = refl in omega (arith, e)
+flat-few f n (x ∷ xs) few =
     let e : length (flatMap f (x ∷ xs)) ≡ length (f x) + length (flatMap f xs) = length-append (f x) (flatMap f xs) in
-    let rest = flat-few f n few xs in let first = few x in
+    let rest = flat-few f n xs (λ y m. few y (List·Memᴰ·tail m)) in let first = few x (List·Memᴰ·head refl) in
     rw suc-mul (omega (arith, e))
 
 pub tracks-warnings-few : (slot : ℕ) (reads : List TrackRead) → length (tracksWarnings slot reads) ≤ length reads * maxTrackWarnings
 unfolding tracksWarnings
-tracks-warnings-few slot reads = flat-few (trackWarnings slot) maxTrackWarnings (track-warnings-few slot) reads
+tracks-warnings-few slot reads = flat-few (trackWarnings slot) maxTrackWarnings reads (λ read m. track-warnings-few slot read)
 
 -- ---- a head leads to its table's tracks
 module _ (lent table : List ℕ) (head : TableHead) (area : Area) (chain : Chain) (its : head .area ≡ area) (kept : head .chain ≡ chain)

@@ -3,7 +3,7 @@ use Prim.Native.Nat.{ℕ}
 use native.Mathlib.Decide.{ℕ-discrete}
 use mathlib.Core.Bool.{Bool, true, false, not, and-eq-true-iff, true≢false}
 use mathlib.Core.List.{List}
-use mathlib.Core.Logic.{_≢_}
+use mathlib.Core.Logic.{_≢_, _↔_}
 use mathlib.Core.Option.{Option, none, some}
 use mathlib.Core.Path.{_≡_, refl, sym, ap, _∙_}
 use borrow.Author.Tests.{ne-eqb, eq-eqb, eqb-false, le-ltb, not-true}
@@ -11,8 +11,9 @@ use lib.Dec.{eqb}
 use Rattle.sectors.specs.OptionLaws.{some-eq, no-some}
 use Rattle.sectors.specs.Options.{onlyIf}
 use Rattle.sectors.specs.Source.{Source, runOf}
-use Rattle.area.specs.Area.{addressed, noArea}
+use Rattle.area.specs.Area.{addressed, noArea, kindOf}
 use Rattle.area.specs.Limits.{maxAreaTocSectors}
+use Rattle.area.specs.ServeLaws.{SameBehind, either-skips, either-tracks}
 use Rattle.area.specs.Skip.{skipOf}
 use Rattle.area.specs.Table as Area
 use Rattle.area.specs.TableLaws.{head-skips, present-given, address-tracks, addressed-present, area-of, address-area, address-no-area, area-yields}
@@ -215,3 +216,40 @@ area-some slot (some c) e q = go (ℕ-discrete (skipOf (c .bytes)) 0)
     go : Dec (skipOf (c .bytes) ≡ 0) → ⊥
     go (yes kept) = no-some q (kept-is slot c kept)
     go (no skipped) = true≢false (sym e ∙ skipped-has slot c skipped)
+
+-- the tracks of what the rules give
+area-tracks : (slot : Slot) (place : Place) (bytes : List ℕ) (x : Yielded) → areaFrom slot place bytes ≡ some x
+    → x .tracks ≡ Area.tracksGiven (Area.tableOf bytes (slotNumber slot) (place .sectors))
+unfolding areaFrom yieldedBy
+area-tracks slot place bytes x e = go (ℕ-discrete (skipOf bytes) 0)
+  where
+    go : Dec (skipOf bytes ≡ 0) → x .tracks ≡ Area.tracksGiven (Area.tableOf bytes (slotNumber slot) (place .sectors))
+    go (yes kept) = ap (λ (y : Yielded). y .tracks) (sym (some-eq (rw (area-yields bytes (slotNumber slot) (place .lsn) (place .sectors) kept) at e)))
+    go (no skipped) = absurd (no-some refl (rw (head-skips bytes (slotNumber slot) (place .lsn) (place .sectors) skipped) at e))
+
+-- ---- "Either signature serves either slot.": of two copies that differ in their signatures alone, each one of the two, the rules give an area
+-- for both or for neither, with the same tracks, in whichever slot each is
+module _ (a b : List ℕ) (same : SameBehind a b) (own : kindOf a ≢ 0) (other : kindOf b ≢ 0) (slot slot′ : Slot) (place place′ : Place) where
+  pub either-serves : (areaFrom slot place a ≡ none) ↔ (areaFrom slot′ place′ b ≡ none)
+  unfolding areaFrom yieldedBy
+  either-serves = go (ℕ-discrete (skipOf b) 0)
+    where
+      go : Dec (skipOf b ≡ 0) → (areaFrom slot place a ≡ none) ↔ (areaFrom slot′ place′ b ≡ none)
+      go (yes kept) =
+          rw (
+            area-yields a (slotNumber slot) (place .lsn) (place .sectors) (either-skips a b same own other ∙ kept),
+            area-yields b (slotNumber slot′) (place′ .lsn) (place′ .sectors) kept,
+          )
+          (λ e. absurd (no-some e refl), λ e. absurd (no-some e refl))
+      go (no skipped) =
+          rw (
+            head-skips a (slotNumber slot) (place .lsn) (place .sectors) (λ e. skipped (sym (either-skips a b same own other) ∙ e)),
+            head-skips b (slotNumber slot′) (place′ .lsn) (place′ .sectors) skipped,
+          )
+          (λ e. refl, λ e. refl)
+
+  pub either-yields : (x y : Yielded) → areaFrom slot place a ≡ some x → areaFrom slot′ place′ b ≡ some y → x .tracks ≡ y .tracks
+  either-yields x y e f =
+      area-tracks slot place a x e
+      ∙ either-tracks a b same own other (slotNumber slot) (place .sectors) (slotNumber slot′) (place′ .sectors)
+      ∙ sym (area-tracks slot′ place′ b y f)

@@ -156,17 +156,6 @@ module _ (s : Source) (z : Sized s) where
           go false false p q twoChannel = sym (no-area-none twoChannel (chosen s (pointerOf table twoChannel)) p)
           go false false p q multichannel = sym (no-area-none multichannel (chosen s (pointerOf table multichannel)) q)
 
-      -- The master record is what is made of the table.
-      pub master-back : readingOf s table format memory .answer .master ≡ masterOf table
-      unfolding readingOf answerOf accepted silent
-      master-back = go (hasArea (tableOf s table twoChannel) || hasArea (tableOf s table multichannel))
-        where
-          go : (b : Bool)
-              → cond b (accepted format (s .count) table (length (warningsOf s table)) (tableOf s table twoChannel) (tableOf s table multichannel)) (silent table (length (warningsOf s table))) .master
-              ≡ masterOf table
-          go true = refl
-          go false = refl
-
       -- Refusal 6 comes exactly when neither slot yields.
       pub silent-when : (readingOf s table format memory .answer .refusal ≡ noAudioAreas)
           ↔ ((slotYields (readingOf s table format memory) twoChannel ≡ none) × (slotYields (readingOf s table format memory) multichannel ≡ none))
@@ -188,6 +177,17 @@ module _ (s : Source) (z : Sized s) where
           go false true p q = (λ e. absurd (omega (arith, e)), λ e. absurd (area-some multichannel (chosen s (pointerOf table multichannel)) q (e .1)))
           go false false p q =
               (λ e. (no-area-none twoChannel (chosen s (pointerOf table twoChannel)) p, no-area-none multichannel (chosen s (pointerOf table multichannel)) q), λ e. refl)
+
+-- The master record is what is made of the table.
+pub master-back : (s : Source) (table : List ℕ) (format : ℕ) (memory : Memory) → readingOf s table format memory .answer .master ≡ masterOf table
+unfolding readingOf answerOf accepted silent
+master-back s table format memory = go (hasArea (tableOf s table twoChannel) || hasArea (tableOf s table multichannel))
+  where
+    go : (b : Bool)
+        → cond b (accepted format (s .count) table (length (warningsOf s table)) (tableOf s table twoChannel) (tableOf s table multichannel)) (silent table (length (warningsOf s table))) .master
+        ≡ masterOf table
+    go true = refl
+    go false = refl
 
 -- ---- the checks
 

@@ -19,6 +19,7 @@ pub mod SlotLaws
 pub mod Demand3
 pub mod ChosenLaws
 pub mod DiscLaws
+pub mod RefusalLaws
 pub mod SourceCut
 pub mod Demand3Proof
 pub mod Demand3Calls

@@ -145,7 +145,7 @@ module _ (W : Source) (z : Sized W) (format : ℕ) (m : Memory) (table : List �
     pub source-holds : SourceHolds U W table (readSource W format m)
     unfolding yieldedIn placeOf firstPlace secondPlace
     source-holds = record {
-      s-master = rw (passed-read W format m table p) (master-back W z table long m (p .room) format);
+      s-master = rw (passed-read W format m table p) (master-back W table format m);
       s-first = λ slot h b e. (
         same-copy U W k table (p .there) slot (firstPlace (pointerOf table slot)) (the-first h refl) b e,
         by-chosen slot _ (chosen-first W (pointerOf table slot) h b e),

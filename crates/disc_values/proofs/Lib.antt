@@ -1,3 +1,4 @@
+pub mod Demanded
 pub mod Logic
 pub mod LocalArray
 pub mod TrackList

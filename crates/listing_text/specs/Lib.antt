@@ -4,3 +4,4 @@ pub mod Line
 pub mod LineLaws
 pub mod Listing
 pub mod ListingLaws
+pub mod PageLaws

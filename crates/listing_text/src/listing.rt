@@ -1,12 +1,16 @@
 // The listing of a lone table: its sections, or the line of its refusal.
 ghost use mathlib.Core.Path.{_≡_};
 ghost use mathlib.Core.List.{_++_, map};
+ghost use Prim.Native.Nat.{_≤_};
+ghost use lib.ListN.{length};
 ghost use lib.Seq.{sets};
+ghost use Rattle.sectors.specs.Fill.{fill};
 ghost use Rattle.area.specs.Lent.{counted};
 ghost use Rattle.area.specs.Lone.{loneSlot};
 ghost use Rattle.area.specs.Table.{tracksIn, headWarnings, warningsIn};
 ghost use Rattle.area.specs.Warning.{wordOf};
 ghost use Rattle.listing_text.specs.Listing.{sectionsOf, refusedLine, listingOf, warningOf};
+ghost use Rattle.listing_text.specs.PageLaws.{listingPage};
 use crate::line::put_word_line;
 use crate::section::put_locale_section;
 use crate::section::put_track_section;
@@ -25,8 +29,8 @@ use sectors::sector::SECTOR_SIZE;
 // Bytes of a table that is listed at most.
 pub const MAX_LISTED: usize = 65536;
 
-// A page that has room for every listing: three lines of counts, 10 of at most 12 bytes for the locales, 255 of 42 for the tracks and 766
-// of 9 for the warnings.
+// The bytes of a page that has room for every listing: three lines of counts, 10 of at most 12 bytes for the locales, 255 of 42 for the tracks
+// and 766 of 9 for the warnings. The programs lend such a page, so that what they print is the whole listing.
 pub const LISTING_PAGE: usize = 32768;
 
 // Writes the line of a refusal.
@@ -52,10 +56,11 @@ fn put_sections(table: &[u8], head: TableHead, page: &mut [u8]) -> usize
     put_warning_section(page, tracks.at, &words[..warnings])
 }
 
-// Writes the listing of a lone table of at most 65,536 bytes to the start of a page, as much of it as fits; the count of bytes written.
-pub fn list_table(table: &[u8], page: &mut [u8]) -> usize
-    ensures written { λ r. ⌜ now (page .exit) ≡ sets (now (page .entry)) 0 (listingOf (now (table .entry))) ⌝ }
-    ensures counted { λ r. ⌜ r ≡ counted (now (page .entry)) 0 (listingOf (now (table .entry))) ⌝ }
+// Writes the listing of a lone table of at most 65,536 bytes to the start of a page, which has room for all of it; the count of bytes written.
+pub fn list_table(table: &[u8], page: &mut [u8; LISTING_PAGE]) -> usize
+    ensures written { λ r. ⌜ now (page .exit) ≡ fill 0 (listingOf (now (table .entry))) (now (page .entry)) ⌝ }
+    ensures counted { λ r. ⌜ r ≡ length (listingOf (now (table .entry))) ⌝ }
+    ensures fits { λ r. ⌜ r ≤ listingPage ⌝ }
 {
     if (MAX_LISTED < table.len()) | is_odd_table(table.len()) {
         return put_refused(page, ODD_TABLE);

@@ -1,10 +1,6 @@
-pub mod Alpha
 pub mod AuditCases
 pub mod Bounds
-pub mod Division
 pub mod Fold
 pub mod Halves
 pub mod Places
-pub mod Table
 pub mod Turns
-pub mod Xor

@@ -18,7 +18,11 @@ pub mod SourceLaws
 pub mod Run
 pub mod RunLaws
 pub mod Field
+pub mod XorLaws
+pub mod TableLaws
+pub mod AlphaLaws
 pub mod Header
+pub mod HeaderLaws
 pub mod Audit
 pub mod AuditLaws
 pub mod Fnv

@@ -24,8 +24,7 @@ unfoldable pub readInto : ℕ → List ℕ → ℕ → ℕ → ℕ → List ℕ 
 readInto format image lsn count at old =
     cond (eqb (readRefusal format (length image) lsn count at (length old)) 0) (fill at (runData format image lsn count) old) old
 
--- "Copies at 520 and 530: any readable one unequal gives 17": how a run compares with as many lent bytes, from the first on: 1 where
--- they are the same, else 0; 0 with a refusal.
+-- How a run compares with as many lent bytes, from the first on: 1 where they are the same, else 0; 0 with a refusal.
 unfoldable pub comparisonOf : ℕ → List ℕ → ℕ → ℕ → List ℕ → Comparison
 comparisonOf format image lsn count bytes =
     record {

@@ -2,6 +2,7 @@
 use Prim.Native.Nat.{ℕ, zero, suc, _+_, _*_, _-_, _/_, _≤_, _<_}
 use native.Mathlib.Nat.{add-zero, add-suc, add-assoc, div-zero, div-le-self, div-mul-le-self, le-div-iff-mul-le, mul-le-mul-right}
 use native.Mathlib.Omega.{arith}
+use mathlib.Core.Logic.{_≢_, _↔_}
 use mathlib.Core.Path.{_≡_, refl, sym, _∙_, ap}
 use mathlib.Core.Bool.{Bool, true, false}
 use mathlib.Core.List.{List, [], _++_, append-nil, append-assoc}
@@ -9,12 +10,22 @@ use lib.ListN.{length, getD, drop, length-append, List·getD-eq-default}
 use lib.Seq.{ext-getD, take-at, take-add, drop-at, drop-drop}
 use borrow.Author.Tests.{leb-true, leb-false, le-leb, lt-leb}
 use Rattle.sectors.specs.Fill.{part}
-use Rattle.sectors.specs.FillLaws.{part-length, part-at}
+use Rattle.sectors.specs.FillLaws.{part-length, part-at, part-part}
 use Rattle.sectors.specs.declared.sector.Layout.{Layout}
 use Rattle.sectors.specs.Format.{foreign, layouts, layoutOf, storedSize, dataOffset, sectorSize}
 use Rattle.sectors.specs.Sector.{sectorCount, readable, sectorData, dataStart, runData}
 
 -- ---- formats
+
+-- "format is not 0 (`Plain`), 1 (`Raw2054`), 2 (`Raw2064`)"
+pub foreign-when : (format : ℕ) → (foreign format ≡ true) ↔ ((format ≢ 0) × ((format ≢ 1) × (format ≢ 2)))
+unfolding foreign
+foreign-when format = (
+  (λ e. let above = leb-true 3 format e in (omega arith, (omega arith, omega arith))),
+  (λ n.
+      let zeroth = n .0 in let first = n .1 .0 in let second = n .1 .1 in
+      le-leb 3 format (omega arith)),
+)
 
 -- a foreign format has no stored size
 pub foreign-size : (format : ℕ) → foreign format ≡ true → storedSize format ≡ 0
@@ -170,6 +181,16 @@ module _ (format : ℕ) (image : List ℕ) where
       sym (part-at (k * sectorSize) sectorSize (runData format image lsn count) i 0 q)
       ∙ ap (λ (s : List ℕ). getD s i 0) (run-part lsn count k h l)
       ∙ sector-byte (lsn + k) i (sector-of-run lsn count k h l) q
+
+  -- bytes of sector k of a readable run, as a part of the image
+  pub run-section : (lsn count k i n : ℕ) → readable format (length image) lsn count ≡ true → k < count → i + n ≤ sectorSize
+      → part (k * sectorSize + i) n (runData format image lsn count) ≡ part ((lsn + k) * storedSize format + dataOffset format + i) n image
+  run-section lsn count k i n h l q =
+      let there = sector-of-run lsn count k h l in
+      let long = run-length lsn count h in
+      sym (part-part (k * sectorSize) sectorSize i n (runData format image lsn count) q (omega arith))
+      ∙ ap (part i n) (run-part lsn count k h l ∙ sector-is (lsn + k) there)
+      ∙ part-part ((lsn + k) * storedSize format + dataOffset format) sectorSize i n image q (sector-inside (lsn + k) there)
 
 -- two images that agree on a sector's data bytes have the same sector
 pub sector-ext : (format : ℕ) (a b : List ℕ) (lsn : ℕ)

@@ -34,6 +34,11 @@ pub signed-here : (table : List ℕ) (at : ℕ) (signature : List ℕ) → part 
 unfolding signedAt
 signed-here table at signature e = rw e (same-refl signature)
 
+-- and only then
+pub signed-is : (table : List ℕ) (at : ℕ) (signature : List ℕ) → signedAt table at signature ≡ true → part at (length signature) table ≡ signature
+unfolding signedAt
+signed-is table at signature e = same-eq (part at (length signature) table) signature e
+
 -- where one signature is, no other of its length is
 pub signed-other : (table : List ℕ) (at : ℕ) (signature other : List ℕ) → signedAt table at signature ≡ true → length other ≡ length signature
     → (signature ≡ other → ⊥) → signedAt table at other ≡ false

@@ -1,11 +1,14 @@
--- The starred cards of 01 ("Bench cards") as one table: each has what is asked and the answer that it wants. Assumes nothing.
+-- The starred cards of 01 ("Bench cards") as one table: each has what is asked and the answer that it wants, says a proposition of the definitions,
+-- and has a test that can be computed. Assumes nothing.
 use Prim.Native.Nat.{ℕ}
 use mathlib.Core.Bool.{Bool, true, false, cond, not, _&&_}
 use mathlib.Core.List.{List, [], _∷_}
-use lib.Dec.{eqb}
+use mathlib.Core.Path.{_≡_}
+use lib.Dec.{ltb, eqb}
 use lib.ListN.{length, replicate}
+use Rattle.sectors.specs.Audit.{headerSize}
 use Rattle.sectors.specs.Bytes.{same}
-use Rattle.sectors.specs.Header.{isSound}
+use Rattle.sectors.specs.Header.{Sound, isSound}
 use Rattle.text.specs.Charset.{latin1, charsetOf}
 use Rattle.text.specs.Decode.{decodeOf, decodeInto}
 use Rattle.area.specs.Cap.{capOf}
@@ -63,6 +66,32 @@ cards =
     ∷ headerCard (0x00 ∷ 0x00 ∷ 0x00 ∷ 0x01 ∷ 0x02 ∷ 0x03 ∷ []) false
     ∷ []
 
+-- ---- what a card says
+
+-- sound, or not
+unfoldable pub Judged : Bool → List ℕ → Type 0
+Judged true bytes = Sound bytes
+Judged false bytes = ¬ Sound bytes
+
+-- decoding fills a page of as many bytes as a text has, and with the text
+pub record Decodes (bytes : List ℕ) (code : ℕ) (text : List ℕ) : Type 0 where
+  pub its-length : decodeOf bytes code (length text) .len ≡ length text
+  pub its-bytes : decodeInto bytes code (replicate (length text) 0) ≡ text
+
+unfoldable pub Holds : Card → Type 0
+Holds (frameCard t number) = frameNumber t ≡ number
+Holds (capCard start duration times) = capOf start duration cardPlaytime ≡ times
+Holds (byteCard b text) = Decodes (b ∷ []) latin1 text
+Holds (charsetCard code charset) = charsetOf code ≡ charset
+Holds (headerCard bytes sound) = Judged sound bytes
+
+-- all of them do
+unfoldable pub AllHold : List Card → Type 0
+AllHold [] = Unit
+AllHold (card ∷ rest) = Holds card × AllHold rest
+
+-- ---- the test of a card
+
 -- whether two tests come out alike
 unfoldable pub alike : Bool → Bool → Bool
 alike a b = cond a b (not b)
@@ -73,18 +102,20 @@ sameTimes a b =
     && eqb (a .«duration_frames» .0) (b .«duration_frames» .0)
     && alike (a .«past_playtime») (b .«past_playtime»)
 
--- whether decoding fills a page of as many bytes as a text has, and with the text
 unfoldable pub decodesTo : List ℕ → ℕ → List ℕ → Bool
 decodesTo bytes code text =
     eqb (decodeOf bytes code (length text) .len) (length text) && same (decodeInto bytes code (replicate (length text) 0)) text
 
--- whether the definitions give a card's answer
+unfoldable pub areBytes : List ℕ → Bool
+areBytes [] = true
+areBytes (b ∷ rest) = ltb b 256 && areBytes rest
+
 unfoldable pub passes : Card → Bool
 passes (frameCard t number) = eqb (frameNumber t .0) (number .0)
 passes (capCard start duration times) = sameTimes (capOf start duration cardPlaytime) times
 passes (byteCard b text) = decodesTo (b ∷ []) latin1 text
 passes (charsetCard code charset) = eqb (charsetOf code) charset
-passes (headerCard bytes sound) = alike (isSound bytes) sound
+passes (headerCard bytes sound) = eqb (length bytes) headerSize && areBytes bytes && alike (isSound bytes) sound
 
 unfoldable pub allPass : List Card → Bool
 allPass [] = true

@@ -1,5 +1,5 @@
--- `listing_text::listing::list_table` meets its contract: the size decides first, then the head; a word tells its warning.
--- Assumes nothing.
+-- `listing_text::listing::list_table` meets its contract: the size decides first, then the head; a word tells its warning;
+-- and the listing fits the page. Assumes nothing.
 use mathlib.Core.Path.{_≡_, sym, ap, _∙_}
 use mathlib.Core.Logic.{⊎-elim}
 use mathlib.Core.Bool.{Bool, false, _||_}
@@ -25,6 +25,7 @@ use Rattle.area.specs.declared.table.TableHead.{TableHead}
 use Rattle.area.specs.declared.warning.Warning.{Warning}
 use Rattle.listing_text.specs.Listing.{maxListed, sectionsOf, warningOf}
 use Rattle.listing_text.specs.ListingLaws.{listing-odd, listing-skipped, listing-yielded, words-told}
+use Rattle.listing_text.specs.PageLaws.{whole-listing}
 use Rattle.listing_text.proofs.Writing.{said}
 use Rattle.listing_text.proofs.listing.list_table.Statement.{statement}
 use Rattle.listing_text.proofs.listing.list_table.Tie as tie
@@ -57,17 +58,15 @@ is-odd-table-requires c κs = search needs
 put-refused-requires : tie.Need-put-refused-requires
 put-refused-requires c κs = search needs
 
-same-length : tie.Need-same-length
-same-length c = search needs
-
 returns : tie.Need-returns
 returns c =
-    let a = c .before .before .before .before .before .before .before .before .args in let table = now (a .table) in
-    let odd = ap (λ (t : Bool). ltb maxListed (length table) || t) (sym (c .before .before .before .before .before .is-odd-table .ensures)) ∙ c .before .before .before .before .if1 .taken in
-    said (now (a .page)) 0 (sym (listing-odd table odd)) (c .before .before .put-refused .ensures)
+    let a = c .before .before .before .before .before .args in let table = now (a .table) in
+    let odd = ap (λ (t : Bool). ltb maxListed (length table) || t) (sym (c .before .before .before .is-odd-table .ensures)) ∙ c .before .before .if1 .taken in
+    whole-listing table (now (a .page)) (λ i. omega (arith, c .before .before .before .before .shared-slice-known .given i)) (omega (arith, c .before .put-refused-arg .given))
+    (said (now (a .page)) 0 (sym (listing-odd table odd)) (c .put-refused .ensures))
 
 cast-table-head : tie.Need-cast-table-head
-cast-table-head c = let size = listed (length (now (c .before .before .before .before .args .table))) (c .before .is-odd-table .ensures) (c .if1 .left) in omega arith
+cast-table-head c = let size = listed (length (now (c .before .before .before .args .table))) (c .before .is-odd-table .ensures) (c .if1 .left) in omega arith
 
 table-head-requires : tie.Need-table-head-requires
 table-head-requires c κs = search needs
@@ -75,34 +74,30 @@ table-head-requires c κs = search needs
 put-refused-requires-2 : tie.Need-put-refused-requires-2
 put-refused-requires-2 c κs = search needs
 
-same-length-2 : tie.Need-same-length-2
-same-length-2 c = search needs
-
 returns-2 : tie.Need-returns-2
 returns-2 c =
-    let a = c .before .before .before .before .before .before .before .before .before .before .before .args in let table = now (a .table) in let read = c .before .before .before .before .before .before .table-head in
-    let size = listed (length table) (c .before .before .before .before .before .before .before .before .is-odd-table .ensures) (c .before .before .before .before .before .before .before .if1 .left) in
+    let a = c .before .before .before .before .before .before .before .before .args in let table = now (a .table) in let read = c .before .before .before .before .table-head in
+    let size = listed (length table) (c .before .before .before .before .before .before .is-odd-table .ensures) (c .before .before .before .before .before .if1 .left) in
     let its = head-read table (size .1) (read .result) (read .ensures) in
-    let skip = lone-skips table maxTracks tableWords (size .1) lone-room (λ e. c .before .before .before .before .if2 .taken (ap (λ (h : TableHead). h .skip) its ∙ e)) in
+    let skip = lone-skips table maxTracks tableWords (size .1) lone-room (λ e. c .before .before .if2 .taken (ap (λ (h : TableHead). h .skip) its ∙ e)) in
     let e = listing-skipped table (size .0) _ skip in
-    said (now (a .page)) 0 (sym e) (c .before .before .put-refused2 .ensures)
+    whole-listing table (now (a .page)) (λ i. omega (arith, c .before .before .before .before .before .before .before .shared-slice-known .given i)) (omega (arith, c .before .put-refused-arg2 .given))
+    (said (now (a .page)) 0 (sym e) (c .put-refused2 .ensures))
 
 put-sections-requires : tie.Need-put-sections-requires
 put-sections-requires c κs = search needs
 
-same-length-3 : tie.Need-same-length-3
-same-length-3 c = search needs
-
 returns-3 : tie.Need-returns-3
 returns-3 c =
-    let a = c .before .before .before .before .before .before .before .before .before .before .before .args in let table = now (a .table) in let read = c .before .before .before .before .before .before .table-head in let head = read .result in
-    let size = listed (length table) (c .before .before .before .before .before .before .before .before .is-odd-table .ensures) (c .before .before .before .before .before .before .before .if1 .left) in
+    let a = c .before .before .before .before .before .before .before .before .args in let table = now (a .table) in let read = c .before .before .before .before .table-head in let head = read .result in
+    let size = listed (length table) (c .before .before .before .before .before .before .is-odd-table .ensures) (c .before .before .before .before .before .if1 .left) in
     let its = head-read table (size .1) head (read .ensures) in
-    let kept = ap (λ (h : TableHead). h .skip) (sym its) ∙ c .before .before .before .before .if2 .left in
+    let kept = ap (λ (h : TableHead). h .skip) (sym its) ∙ c .before .before .if2 .left in
     let e = listing-yielded table (size .0) _ _ _ (lone-yields table maxTracks tableWords (size .1) lone-room kept) in
-    let told = warnings-told table head (omega (arith, c .before .before .before .before .before .struct-known .given)) in
+    let told = warnings-told table head (omega (arith, c .before .before .before .struct-known .given)) in
     let by-head = ap (λ (h : TableHead). sectionsOf (h .area) (tracksIn table h) (headWarnings loneSlot h ++ warningsIn table h)) its in
-    said (now (a .page)) 0 (ap (sectionsOf (head .area) (tracksIn table head)) told ∙ by-head ∙ sym e) (c .before .before .put-sections .ensures)
+    whole-listing table (now (a .page)) (λ i. omega (arith, c .before .before .before .before .before .before .before .shared-slice-known .given i)) (omega (arith, c .before .put-sections-arg .given))
+    (said (now (a .page)) 0 (ap (sectionsOf (head .area) (tracksIn table head)) told ∙ by-head ∙ sym e) (c .put-sections .ensures))
 
 pub list-table-spec : {M : Type 1} → statement M
 list-table-spec =
@@ -110,13 +105,10 @@ list-table-spec =
     (tie.spec
     is-odd-table-requires
     put-refused-requires
-    same-length
     returns
     cast-table-head
     table-head-requires
     put-refused-requires-2
-    same-length-2
     returns-2
     put-sections-requires
-    same-length-3
     returns-3)

@@ -2,7 +2,7 @@
 -- Assumes nothing.
 use borrow.Author.Needs.{needs}
 use Rattle.sectors.specs.Field.{timesAlpha, _⊕_}
-use Rattle.sectors.proofs.Table.{rule}
+use Rattle.sectors.specs.TableLaws.{values, rule}
 use Rattle.sectors.proofs.field.times_alpha.Statement.{statement}
 use Rattle.sectors.proofs.field.times_alpha.Tie as tie
 
@@ -10,7 +10,7 @@ array-read-result : tie.Need-array-read-result
 array-read-result c = search needs
 
 returns : tie.Need-returns
-unfolding timesAlpha _⊕_
+unfolding values timesAlpha _⊕_
 returns c = rule timesAlpha 256 (c .args .x) (search needs)
 
 pub times-alpha-spec : {M : Type 1} → statement M

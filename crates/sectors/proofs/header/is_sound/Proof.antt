@@ -5,7 +5,7 @@ use native.Mathlib.Omega.{arith}
 use lib.Dec.{eqb}
 use borrow.Author.Needs.{needs}
 use Rattle.sectors.specs.Header.{isMultiple, isSound}
-use Rattle.sectors.proofs.Division.{decides}
+use Rattle.sectors.specs.HeaderLaws.{decides}
 use Rattle.sectors.proofs.header.is_sound.Statement.{statement}
 use Rattle.sectors.proofs.header.is_sound.Tie as tie
 

@@ -9,11 +9,12 @@ use lib.ListN.{getD, length}
 use lib.Seq.{ext-getD}
 
 -- f i, f (i + 1), .., n of them
-abbrev pub values : (ℕ → ℕ) → ℕ → ℕ → List ℕ
+unfoldable pub values : (ℕ → ℕ) → ℕ → ℕ → List ℕ
 values f i zero = []
 values f i (suc n) = f i ∷ values f (suc i) n
 
 value-at : (f : ℕ → ℕ) (n i k : ℕ) → k < n → getD (values f i n) k 0 ≡ f (i + k)
+unfolding values
 value-at f zero i k h = absurd (not-suc-le-zero h)
 value-at f (suc n) i zero h = ap f (sym (add-zero i))
 value-at f (suc n) i (suc k) h = value-at f n (suc i) k (le-of-suc-le-suc h) ∙ ap f (suc-add i k ∙ sym (add-suc i k))
@@ -27,6 +28,7 @@ pub agree : (f g : ℕ → ℕ) (n : ℕ) → values f 0 n ≡ values g 0 n → 
 agree f g n e k h = sym (rule f n k h) ∙ ap (λ (l : List ℕ). getD l k 0) e ∙ rule g n k h
 
 length-values : (f : ℕ → ℕ) (n i : ℕ) → length (values f i n) ≡ n
+unfolding values
 length-values f zero i = refl
 length-values f (suc n) i = ap suc (length-values f n (suc i))
 

@@ -7,19 +7,19 @@ use native.Mathlib.Omega.{arith}
 use lib.Dec.{eqb}
 use borrow.Author.Tests.{eq-eqb}
 use Rattle.sectors.specs.Field.{_⊕_, timesAlpha}
-use Rattle.sectors.proofs.Table.{agree}
-use Rattle.sectors.proofs.Xor.{sums, sum-lt, sum-up, sum-down, sum-low}
+use Rattle.sectors.specs.TableLaws.{values, agree}
+use Rattle.sectors.specs.XorLaws.{sums, sum-lt, sum-up, sum-down, sum-low}
 
 pub alpha-zero : timesAlpha 0 ≡ 0
 unfolding timesAlpha
 alpha-zero = refl
 
 pub alpha-lt : {a : ℕ} → a < 256 → timesAlpha a < 256
-unfolding timesAlpha _⊕_
+unfolding values timesAlpha _⊕_
 alpha-lt {a} h = omega (arith, agree (λ a. timesAlpha a / 256) (λ a. 0) 256 refl a h)
 
 pub only-zero-stays : (a : ℕ) → a < 256 → a ⊕ timesAlpha a ≡ 0 → a ≡ 0
-unfolding timesAlpha _⊕_
+unfolding values timesAlpha _⊕_
 only-zero-stays a h e =
     ap (λ (b : Bool). cond b a 0) (sym (eq-eqb (a ⊕ timesAlpha a) 0 e))
     ∙ agree (λ a. cond (eqb (a ⊕ timesAlpha a) 0) a 0) (λ a. 0) 256 refl a h
@@ -29,7 +29,7 @@ asSum : ℕ → ℕ
 asSum a = a * 2 ^ 1 % 2 ^ 8 ⊕ a / 2 ^ 7 * 2 ^ 4 ⊕ a / 2 ^ 7 * 2 ^ 3 ⊕ a / 2 ^ 7 * 2 ^ 2 ⊕ a / 2 ^ 7
 
 alpha-as-sum : (a : ℕ) → a < 256 → timesAlpha a ≡ asSum a
-unfolding timesAlpha _⊕_ asSum
+unfolding values timesAlpha _⊕_ asSum
 alpha-as-sum = agree timesAlpha asSum 256 refl
 
 pub linear : (a b : ℕ) → a < 256 → b < 256 → timesAlpha (a ⊕ b) ≡ timesAlpha a ⊕ timesAlpha b

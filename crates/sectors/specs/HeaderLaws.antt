@@ -9,9 +9,9 @@ use lib.ListN.{getD, length}
 use borrow.Author.Tests.{eqb-true}
 use Rattle.sectors.specs.Field.{_⊕_, timesAlpha}
 use Rattle.sectors.specs.Header.{timesRoot, product, Multiple, Sound, atOne, atAlpha, isMultiple, isSound}
-use Rattle.sectors.proofs.Xor.{sums, sum-lt, zero-sum, equal-if-zero}
-use Rattle.sectors.proofs.Alpha.{linear, alpha-zero, alpha-lt, only-zero-stays}
-use Rattle.sectors.proofs.Table.{places}
+use Rattle.sectors.specs.XorLaws.{sums, sum-lt, zero-sum, equal-if-zero}
+use Rattle.sectors.specs.AlphaLaws.{linear, alpha-zero, alpha-lt, only-zero-stays}
+use Rattle.sectors.specs.TableLaws.{values, places}
 
 product-passes : (a b c d : ℕ) → a < 256 → b < 256 → c < 256 → d < 256 → isMultiple (product (a ∷ b ∷ c ∷ d ∷ [])) ≡ true
 unfolding isMultiple atOne atAlpha product timesRoot
@@ -61,6 +61,7 @@ module _ (h₀ h₁ h₂ h₃ h₄ h₅ : ℕ) (h₀-lt : h₀ < 256) (h₁-lt :
       rw divided at (zero-at-one-multiple h₀ p₂ p₃ p₄ p₅ h₀-lt p₂-lt p₃-lt p₄-lt p₅-lt (ap atOne divided ∙ zero-at-one))
 
 zeros-multiple : (h : List ℕ) → length h ≡ 6 → ((i : ℕ) → getD h i 0 < 256) → atOne h ≡ 0 → atAlpha h ≡ 0 → Multiple h
+unfolding values
 zeros-multiple h long byte = rw (places h 6 long) (six-zeros-multiple _ _ _ _ _ _ (byte 0) (byte 1) (byte 2) (byte 3) (byte 4))
 
 -- the test finds the multiples, of any six bytes, and only them
@@ -73,7 +74,8 @@ finds-multiples h long byte = (
   (λ q. rw (q .multiple) at (product-passes (q .a) (q .b) (q .c) (q .d) (q .a-byte) (q .b-byte) (q .c-byte) (q .d-byte))),
 )
 
--- and so what is sound
+-- "It is sound when the six, first byte highest, are a multiple of (x + 1)(x + α)": of any six bytes the test passes where they are, and only
+-- there.
 pub decides : (h : List ℕ) → length h ≡ 6 → ((i : ℕ) → getD h i 0 < 256) → (isSound h ≡ true → Sound h) × (Sound h → isSound h ≡ true)
 unfolding isSound
 decides h long byte =
