@@ -1,6 +1,6 @@
 -- `decode_track_text_by_value` meets its contract: a walk of its MIR. The list stands in a local, which is lent for the call and taken back; all else goes to `decode_disc_track_text` as it came. What that says of its answer and of the page is this contract. Assumes nothing.
 use Rattle.disc_values.proofs.Logic.{_≡_, refl, sym, subst, ℕ, List, [], _∷_, lit<, length, URA, fullShare, tyRef, imm, erased, named, w32, Val, SProp, ent, emp, via, fst∗, id⊢, Lft, Share, GName, ftrue, fat, flft, flent, Memory, Routine, Heap, WpFn, Tables, Atoms, Lfts, Fun, givenOf, Given, Item, ‵, raw}
-use Rattle.disc_values.proofs.Logic.{_⊛_, some, later, mean, _$_, _∵_, !, qed, move, use1, use2, split, join, pick, learn, rewrite, fsplit, fjoin, frame, await, updating, at-once, show, done, look, init, forget, stop, hop, fld, from, load, lit, of-opd, addr, and-then, no-more, assigns, land, returns, enter}
+use Rattle.disc_values.proofs.Logic.{_⊛_, some, later, mean, _$_, _∵_, !, qed, move, use1, use2, split, join, pick, learn, rewrite, fsplit, fjoin, await, updating, at-once, show, done, look, init, forget, stop, hop, fld, from, load, lit, of-opd, addr, and-then, no-more, assigns, land, returns, enter}
 use Rattle.disc_values.proofs.Logic.{alloc1, alloc0, params1, pass1, pass0, free1, free0, whole, sub, look-in, agg, lft-new, lft-end, lent-back, fmOf, owns, Is, shows, Spells, Typed, valss, all-typed, pointee, uint-vals, uint-tells, u8, RefT, sliceTy, sliceVal, ShrSlice, Room, slice-vals, mut-slice-tells}
 use Rattle.disc_values.proofs.Logic.{shr-slice-tells, lends-shr-slice, peeks, typesAt, Contract, Triple, calls-at, Args, onEntry, Meets, tripleOf, Handed, value, shared, exclusive, number, struct, rows, params, lawfuls, tysOf, AllAre, asked, spelled, over-one-call}
 use denote.Struct.Laws as LL
@@ -46,16 +46,7 @@ module _ {M : Type 1} (𝓤 : URA M) (H : Heap 𝓤) (A : Atoms 𝓤) (W : Given
     list l γ = record { ptr = (l, 0); name = γ; now = xs }
 
     abbrev passed : (α l : ℕ) (γ : GName) → Decodes .Ghost
-    passed α l γ = (
-      (
-        (κ₀, (α ∷ [], (κ₁, tt))),
-        (q₀, (fullShare, (q₁, tt))),
-        tt,
-        (a .0, (a .1 .0, (list l γ, a .1 .1 .1))),
-        (y .0 .4 .0, (y .0 .4 .1 .0, (slice-vals (list l γ), y .0 .4 .1 .1 .1))),
-      ),
-      tt,
-    )
+    passed α l γ = (((κ₀, (α ∷ [], (κ₁, tt))), (q₀, (fullShare, (q₁, tt))), tt, (a .0, (a .1 .0, (list l γ, a .1 .1 .1))), (y .0 .4 .0, (y .0 .4 .1 .0, (slice-vals (list l γ), y .0 .4 .1 .1 .1)))), tt)
 
     -- what the call answers is what this function answers
     abbrev Answer : Val → DecodeAnswer → Item 𝓤

@@ -97,16 +97,7 @@ module _ {M : Type 1} (𝓤 : URA M) (H : Heap 𝓤) (A : Atoms 𝓤) (W : Given
     list l γ = record { ptr = (l, 0); name = γ; now = xs }
 
     abbrev passed : (α l : ℕ) (γ : GName) → Reads .Ghost
-    passed α l γ = (
-      (
-        (κ₀, (κ₁, (α ∷ [], (κ₂, tt)))),
-        (q₀, (q₁, (fullShare, (q₂, tt)))),
-        tt,
-        (a .0, (a .1 .0, (a .1 .1 .0, (list l γ, a .1 .1 .1 .1)))),
-        (y .0 .4 .0, (y .0 .4 .1 .0, (y .0 .4 .1 .1 .0, (slice-vals (list l γ), y .0 .4 .1 .1 .1 .1)))),
-      ),
-      tt,
-    )
+    passed α l γ = (((κ₀, (κ₁, (α ∷ [], (κ₂, tt)))), (q₀, (q₁, (fullShare, (q₂, tt)))), tt, (a .0, (a .1 .0, (a .1 .1 .0, (list l γ, a .1 .1 .1 .1)))), (y .0 .4 .0, (y .0 .4 .1 .0, (y .0 .4 .1 .1 .0, (slice-vals (list l γ), y .0 .4 .1 .1 .1 .1))))), tt)
 
     -- what both contracts say of the answer and of the three lists at exit: they are those of an outcome
     abbrev outcome : Outcome
