@@ -40,4 +40,4 @@ pub use denote.Triple.Entry.{Args, onEntry}
 pub use denote.Triple.Spec.{Meets, tripleOf}
 pub use Rattle.walks.specs.Handing.{tysOf}
 pub use Rattle.walks.specs.Forward.{Handed, value, shared, exclusive, number, struct, rows, params, lawfuls}
-pub use Rattle.walks.specs.Statement.{AllAre, spelled, over-one-call}
+pub use Rattle.walks.specs.Statement.{AllAre, asked, spelled, over-one-call}

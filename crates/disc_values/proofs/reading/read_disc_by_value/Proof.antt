@@ -1,8 +1,9 @@
 -- `read_disc_by_value` meets its contract: a walk of its MIR. The list stands in a local, which is lent for the call and taken back; what it then holds is the reading's list. All else goes to `read_disc` as it came. The answer's and the reading's types, relations and laws are shut. Assumes nothing.
-use Rattle.disc_values.proofs.Logic.{_≡_, refl, sym, _∙_, subst, ℕ, List, [], _∷_, map, Holds, lit<, length, length-map, URA, fullShare, Ty, tyRef, mut, erased, named, w32, Val, vstruct, vcons, vnil, hasTy, WT, SProp, ent, emp, via, fst∗, id⊢, Lft, Share, GName, ftrue, fat, flft, flent, Memory, Routine, Heap, WpFn, Tables, Atoms, Lfts, Fun, fact, givenOf}
-use Rattle.disc_values.proofs.Logic.{Given, Item, ‵, raw, _⊛_, some, later, mean, _$_, _∵_, !, qed, move, drop, use1, use2, use3, split, join, pick, learn, rewrite, fsplit, fjoin, frame, await, updating, at-once, show, done}
-use Rattle.disc_values.proofs.Logic.{look, init, forget, stop, hop, fld, from, load, lit, of-opd, addr, and-then, no-more, assigns, land, returns, enter, alloc1, alloc0, params1, pass1, pass0, free1, free0, whole, sub, look-in, agg, cells, Arr, lft-new, lft-end, fmOf, owns, Is, shows, Shows, Makes, Typed, Spells, valss, all-typed, mem, pointee, uint-vals, uint-tells, u8, u32, RefT}
-use Rattle.disc_values.proofs.Logic.{sliceTy, sliceVal, MutSlice, Room, slice-vals, mut-slice-tells, shr-slice-tells, Held, lends-slice, slice-back, owned, nothing, peeks, typesAt, Contract, Triple, calls-at, lasts, Args, onEntry, Meets, tripleOf, tysOf, Handed, value, shared, exclusive, number, rows, params, lawfuls, AllAre, spelled, over-one-call}
+use Rattle.disc_values.proofs.Logic.{_≡_, refl, sym, _∙_, subst, ℕ, List, [], _∷_, map, Holds, lit<, length, length-map, URA, fullShare, Ty, tyRef, mut, erased, named, w32, Val, vstruct, vcons, vnil, hasTy, WT, SProp, ent, emp, via, fst∗, id⊢, Lft, Share, GName, ftrue, fat, flft, flent, Memory, Routine}
+use Rattle.disc_values.proofs.Logic.{Heap, WpFn, Tables, Atoms, Lfts, Fun, fact, givenOf, Given, Item, ‵, raw, _⊛_, some, later, mean, _$_, _∵_, !, qed, move, drop, use1, use2, use3, split, join, pick, learn, rewrite, fsplit, fjoin, frame, await, updating, at-once, show, done, look, init, forget, stop, hop}
+use Rattle.disc_values.proofs.Logic.{fld, from, load, lit, of-opd, addr, and-then, no-more, assigns, land, returns, enter, alloc1, alloc0, params1, pass1, pass0, free1, free0, whole, sub, look-in, agg, cells, Arr, lft-new, lft-end, fmOf, owns, Is, shows, Shows, Makes, Typed, Spells, valss, all-typed, mem}
+use Rattle.disc_values.proofs.Logic.{pointee, uint-vals, uint-tells, u8, u32, RefT, sliceTy, sliceVal, MutSlice, Room, slice-vals, mut-slice-tells, shr-slice-tells, Held, lends-slice, slice-back, owned, nothing, peeks, typesAt, Contract, Triple, calls-at, lasts, Args, onEntry, Meets, tripleOf, tysOf}
+use Rattle.disc_values.proofs.Logic.{Handed, value, shared, exclusive, number, rows, params, lawfuls, AllAre, asked, spelled, over-one-call}
 use denote.Array.{each}
 use denote.Shadow.{shadow}
 use denote.Struct.Laws as LL
@@ -96,11 +97,7 @@ module _ {M : Type 1} (𝓤 : URA M) (H : Heap 𝓤) (A : Atoms 𝓤) (W : Given
     list l γ = record { ptr = (l, 0); name = γ; now = xs }
 
     abbrev passed : (α l : ℕ) (γ : GName) → Reads .Ghost
-    passed α l γ = (((κ₀, (κ₁, (α ∷ [], (κ₂, tt)))), (q₀, (q₁, (fullShare, (q₂, tt)))), tt, (a .0, (a .1 .0, (a .1 .1 .0, (list l γ, a .1 .1 .1 .1)))),
-        (y .0 .4 .0, (y .0 .4 .1 .0, (y .0 .4 .1 .1 .0, (slice-vals (list l γ), y .0 .4 .1 .1 .1 .1))))), tt)
-
-    asks : (α l : ℕ) (γ : GName) → ent 𝓤 (onEntry 𝓤 H A callee.signature (passed α l γ .0 .0) (passed α l γ .0 .1) (passed α l γ .0 .3) (passed α l γ .0 .4)) (Reads .pre (passed α l γ))
-    asks α l γ = qed W (raw (onEntry 𝓤 H A callee.signature (passed α l γ .0 .0) (passed α l γ .0 .1) (passed α l γ .0 .3) (passed α l γ .0 .4)) ∷ []) ∵ frame ! $ done !
+    passed α l γ = (((κ₀, (κ₁, (α ∷ [], (κ₂, tt)))), (q₀, (q₁, (fullShare, (q₂, tt)))), tt, (a .0, (a .1 .0, (a .1 .1 .0, (list l γ, a .1 .1 .1 .1)))), (y .0 .4 .0, (y .0 .4 .1 .0, (y .0 .4 .1 .1 .0, (slice-vals (list l γ), y .0 .4 .1 .1 .1 .1))))), tt)
 
     -- what both contracts say of the answer and of the three lists at exit: they are those of an outcome
     abbrev outcome : Outcome
@@ -143,7 +140,7 @@ module _ {M : Type 1} (𝓤 : URA M) (H : Heap 𝓤) (A : Atoms 𝓤) (W : Given
         -- [the list lent; its lender's; its lifetime; what words, work, image and format own; the tokens; …]
         move ! (0 ∷ 3 ∷ []) $ fjoin ! $ move ! (3 ∷ 0 ∷ []) $ fjoin ! $ move ! (3 ∷ 0 ∷ []) $ fjoin ! $ move ! (3 ∷ 0 ∷ []) $ fjoin ! $
         move ! (3 ∷ []) $ split ! $ move ! (1 ∷ []) $ split ! $ move ! (5 ∷ 1 ∷ []) $ join ! $ move ! (1 ∷ 0 ∷ []) $ join ! $ move ! (1 ∷ 0 ∷ []) $ join ! $ join ! $
-        use1 W (raw (Reads .pre (passed α l₆ γ))) (asks α l₆ γ) $
+        use1 W (raw (Reads .pre (passed α l₆ γ))) (asked 𝓤 H A W callee.signature (callee.spec 𝓤 H A memory run) (passed α l₆ γ) refl) $
         calls-at ! (fmOf 𝓤 H (W .laws) 𝓣) Reads known (passed α l₆ γ) (and-then ! (load ! (from ! (stop !)) (look ! 27 refl)) (and-then ! (load ! (from ! (stop !)) (look ! 25 refl)) (and-then ! (load ! (from ! (stop !)) (look ! 12 refl))
         (and-then ! (load ! (from ! (stop !)) (look ! 8 refl)) (and-then ! (load ! (from ! (stop !)) (look ! 4 refl)) (no-more !)))))) (λ u.
         use1 W (later (some (λ (r : DiscAnswer). ((‵ (flft κ₀ q₀) ⊛ ‵ (flft κ₁ q₁) ⊛ ‵ (flft (α ∷ []) fullShare) ⊛ ‵ (flft κ₂ q₂) ⊛ ‵ ftrue) ⊛ ‵ (Ans.the-row .own r (u ∷ []))) ⊛ some (λ (zs : CalleeLasts).
