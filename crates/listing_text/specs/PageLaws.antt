@@ -13,7 +13,7 @@ use lib.Dec.{ltb}
 use lib.ListN.{length, getD, take, length-append, length-take}
 use lib.Seq.{sets}
 use Rattle.sectors.specs.Fill.{fill}
-use Rattle.sectors.specs.FillLaws.{sets-fill}
+use Rattle.sectors.specs.FillLaws.{length-fill, sets-fill}
 use Rattle.area.specs.Area.{addressed}
 use Rattle.area.specs.BoundLaws.{SmallLocale, SmallTrack, SmallWarning, Bounds, kept-bounded}
 use Rattle.area.specs.Lent.{counted}
@@ -162,10 +162,18 @@ listing-fits table bytes = go (ltb maxListed (length table) || isOddTable (lengt
         (lone-reads table maxTracks tableWords sized lone-room) (ℕ-discrete (skipOf table) 0)
 
 -- what is written of it to a page, and how much is counted, where no more is written than fits: all
-pub whole-listing : (table page : List ℕ) → ((i : ℕ) → getD table i 0 < 256) → length page ≡ listingPage → {last : List ℕ} {end : ℕ}
+pub whole-listing : (table page : List ℕ) → ((i : ℕ) → getD table i 0 < 256) → listingPage ≤ length page → {last : List ℕ} {end : ℕ}
     → (last ≡ sets page 0 (listingOf table)) × (end ≡ counted page 0 (listingOf table))
     → (last ≡ fill 0 (listingOf table) page) × ((end ≡ length (listingOf table)) × (end ≤ listingPage))
 whole-listing table page bytes size e =
     let fits = listing-fits table bytes in
     let all = e .1 ∙ counted-all page 0 (listingOf table) (omega arith) ∙ zero-add (length (listingOf table)) in
     (e .0 ∙ sets-fill 0 (listingOf table) page (omega arith), (all, omega (arith, all)))
+
+-- so what is counted of it lies within the page that is left
+pub listing-within : (table page : List ℕ) {last : List ℕ} {end : ℕ}
+    → (last ≡ fill 0 (listingOf table) page) × ((end ≡ length (listingOf table)) × (end ≤ listingPage)) → listingPage ≤ length page → end ≤ length last
+listing-within table page e size =
+    let all = e .1 .0 in let few = e .1 .1 in
+    let kept = ap length (e .0) ∙ length-fill 0 (listingOf table) page (omega arith) in
+    omega arith
