@@ -22,10 +22,10 @@ list-table-requires : tie.Need-list-table-requires
 list-table-requires c κs = search needs
 
 array-share-prefix-page : tie.Need-array-share-prefix-page
-array-share-prefix-page c = listing-within _ _ (c .list-table .ensures) (search needs)
+array-share-prefix-page c = listing-within _ _ (c .list-table .ensures)
 
 slice-aggregate-write-all : tie.Need-slice-aggregate-write-all
-slice-aggregate-write-all c = sym (length-take-le _ _ (listing-within _ _ (c .before .list-table .ensures) (search needs)))
+slice-aggregate-write-all c = sym (length-take-le _ _ (listing-within _ _ (c .before .list-table .ensures)))
 
 write-all-requires : tie.Need-write-all-requires
 write-all-requires c κs = search needs

@@ -25,10 +25,10 @@ write-all-requires-2 : tie.Need-write-all-requires-2
 write-all-requires-2 c κs = search needs
 
 array-share-prefix-page : tie.Need-array-share-prefix-page
-array-share-prefix-page c = listing-within _ _ (c .before .before .before .before .before .list-table .ensures) (search needs)
+array-share-prefix-page c = listing-within _ _ (c .before .before .before .before .before .list-table .ensures)
 
 slice-aggregate-write-all-3 : tie.Need-slice-aggregate-write-all-3
-slice-aggregate-write-all-3 c = sym (length-take-le _ _ (listing-within _ _ (c .before .before .before .before .before .before .list-table .ensures) (search needs)))
+slice-aggregate-write-all-3 c = sym (length-take-le _ _ (listing-within _ _ (c .before .before .before .before .before .before .list-table .ensures)))
 
 write-all-requires-3 : tie.Need-write-all-requires-3
 write-all-requires-3 c κs = search needs
