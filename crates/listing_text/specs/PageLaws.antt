@@ -144,8 +144,7 @@ pub whole-listing : (table page : List ℕ) → ((i : ℕ) → getD table i 0 < 
     → (last ≡ sets page 0 (listingOf table)) × (end ≡ counted page 0 (listingOf table))
     → (last ≡ fill 0 (listingOf table) page) × ((end ≡ length (listingOf table)) × (end ≡ counted page 0 (listingOf table)))
 whole-listing table page bytes size e =
-    let fits = listing-fits table bytes in
-    (
+    let fits = listing-fits table bytes in (
       e .0 ∙ sets-fill 0 (listingOf table) page (omega arith),
       (e .1 ∙ counted-all page 0 (listingOf table) (omega arith) ∙ zero-add (length (listingOf table)), e .1),
     )
