@@ -5,7 +5,7 @@ use native.Mathlib.Omega.{arith}
 use mathlib.Core.Bool.{Bool, true, false, cond, not, true≢false, or-true, _||_}
 use mathlib.Core.List.{List}
 use mathlib.Core.Logic.{_≢_, _↔_, _⊎_, inl, inr}
-use mathlib.Core.Path.{_≡_, refl, sym, ap, _∙_, subst}
+use mathlib.Core.Path.{_≡_, refl, sym, ap, _∙_}
 use borrow.Author.Tests.{ltb-true, ltb-false, lt-ltb, not-true, not-false}
 use lib.Dec.{ltb}
 use lib.ListN.{length, getD}
@@ -16,7 +16,7 @@ use Rattle.sectors.specs.Number.{beAt}
 use Rattle.sectors.specs.NumberLaws.{be-byte}
 use Rattle.sectors.specs.Refusal.{foreignFormat, shortBuffer}
 use Rattle.sectors.specs.Sector.{sectorCount, readable}
-use Rattle.sectors.specs.SectorLaws.{foreign-when, readable-true, readable-false, is-readable, not-readable, run-length, run-byte, run-section}
+use Rattle.sectors.specs.SectorLaws.{foreign-when, readable-false, is-readable, not-readable, run-length, run-byte, run-section}
 use Rattle.sectors.specs.Signature.{signedAt}
 use Rattle.sectors.specs.SignatureLaws.{signed-here, signed-is}
 use Rattle.sectors.specs.Source.{Source, imageSource, runOf}
@@ -27,7 +27,7 @@ use Rattle.disc.specs.Master.{masterLsn, masterSectors, masterBytes, mas
 use Rattle.disc.specs.Refusal.{masterTocTruncated, notScarletBook, versionUnsupported}
 use Rattle.disc.specs.Copies.{hasArea}
 use Rattle.disc.specs.Outcome.{Memory, Outcome}
-use Rattle.disc.specs.Disc.{Master, refused, reads, isShort, judged, masterIn, imageMaster, warningsOf, refusal, silent, accepted, answerOf, tableOf, workAfter, readingOf, outcomeOf, readDisc}
+use Rattle.disc.specs.Disc.{Master, refused, reads, isShort, judged, masterIn, imageMaster, warningsOf, refusal, silent, accepted, answerOf, tableOf, readingOf, outcomeOf, readDisc}
 use Rattle.disc.specs.Demand3.{masterTable}
 use Rattle.disc.specs.DiscLaws.{master-back}
 use Rattle.disc.specs.RegionLaws.{master-held}
@@ -184,9 +184,13 @@ reading-number : (source : Source) (table : List ℕ) (format : ℕ) (memory : M
 unfolding readingOf answerOf accepted silent
 reading-number source table format memory = go (hasArea (tableOf source table twoChannel) || hasArea (tableOf source table multichannel))
   where
-    go : (t : Bool)
-        → (cond t (accepted format (source .count) table (length (warningsOf source table)) (tableOf source table twoChannel) (tableOf source table multichannel)) (silent table (length (warningsOf source table))) .refusal ≡ 0)
-        ⊎ (cond t (accepted format (source .count) table (length (warningsOf source table)) (tableOf source table twoChannel) (tableOf source table multichannel)) (silent table (length (warningsOf source table))) .refusal ≡ noAudioAreas)
+    count : ℕ
+    count = length (warningsOf source table)
+
+    number : Bool → ℕ
+    number t = cond t (accepted format (source .count) table count (tableOf source table twoChannel) (tableOf source table multichannel)) (silent table count) .refusal
+
+    go : (t : Bool) → (number t ≡ 0) ⊎ (number t ≡ noAudioAreas)
     go true = inl refl
     go false = inr refl
 

@@ -1,5 +1,5 @@
--- Laws of the listing: a word tells its warning, what is listed of a table, and where it is written. Assumes nothing.
-use mathlib.Core.Path.{_≡_, refl, ap, _∙_}
+-- Laws of the listing: a word tells its warning, and what is listed of a table. Assumes nothing.
+use mathlib.Core.Path.{_≡_, refl}
 use mathlib.Core.Bool.{Bool, true, false, _||_}
 use mathlib.Core.List.{List, [], _∷_, map, List·Memᴰ, List·Memᴰ·head, List·Memᴰ·tail}
 use Prim.Native.Nat.{ℕ, _/_, _%_, _≤_, _<_}
@@ -7,9 +7,6 @@ use native.Mathlib.Omega.{arith}
 use borrow.Author.Tests.{le-ltb}
 use lib.Dec.{ltb}
 use lib.ListN.{length}
-use lib.Seq.{sets, length-sets}
-use Rattle.area.specs.Lent.{counted}
-use Rattle.area.specs.LentLaws.{counted-within}
 use Rattle.area.specs.Limits.{maxTracks}
 use Rattle.area.specs.Refusal.{noAudioAreas, oddTable}
 use Rattle.area.specs.Table.{skips, yields}
@@ -56,9 +53,3 @@ module _ (table : List ℕ) where
         → listingOf table ≡ sectionsOf area tracks warnings
     unfolding listingOf loneListing
     listing-yielded area tracks warnings e = simp (le-ltb maxListed (length table) short, e)
-
--- what is written of a listing lies within the page
-pub listing-within : (table page : List ℕ) {last : List ℕ} {end : ℕ} → last ≡ sets page 0 (listingOf table) → end ≡ counted page 0 (listingOf table)
-    → end ≤ length last
-listing-within table page w e =
-    let n = ap length w ∙ length-sets page 0 (listingOf table) in omega (arith, counted-within page 0 (listingOf table) (omega arith))

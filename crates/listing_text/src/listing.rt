@@ -1,7 +1,6 @@
 // The listing of a lone table: its sections, or the line of its refusal.
 ghost use mathlib.Core.Path.{_≡_};
 ghost use mathlib.Core.List.{_++_, map};
-ghost use Prim.Native.Nat.{_≤_};
 ghost use lib.ListN.{length};
 ghost use lib.Seq.{sets};
 ghost use Rattle.sectors.specs.Fill.{fill};
@@ -10,7 +9,6 @@ ghost use Rattle.area.specs.Lone.{loneSlot};
 ghost use Rattle.area.specs.Table.{tracksIn, headWarnings, warningsIn};
 ghost use Rattle.area.specs.Warning.{wordOf};
 ghost use Rattle.listing_text.specs.Listing.{sectionsOf, refusedLine, listingOf, warningOf};
-ghost use Rattle.listing_text.specs.PageLaws.{listingPage};
 use crate::line::put_word_line;
 use crate::section::put_locale_section;
 use crate::section::put_track_section;
@@ -60,7 +58,7 @@ fn put_sections(table: &[u8], head: TableHead, page: &mut [u8]) -> usize
 pub fn list_table(table: &[u8], page: &mut [u8; LISTING_PAGE]) -> usize
     ensures written { λ r. ⌜ now (page .exit) ≡ fill 0 (listingOf (now (table .entry))) (now (page .entry)) ⌝ }
     ensures counted { λ r. ⌜ r ≡ length (listingOf (now (table .entry))) ⌝ }
-    ensures fits { λ r. ⌜ r ≤ listingPage ⌝ }
+    ensures fits { λ r. ⌜ r ≡ counted (now (page .entry)) 0 (listingOf (now (table .entry))) ⌝ }
 {
     if (MAX_LISTED < table.len()) | is_odd_table(table.len()) {
         return put_refused(page, ODD_TABLE);

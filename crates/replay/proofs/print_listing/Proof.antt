@@ -1,13 +1,10 @@
--- `replay::print_listing` is safe and ends: what is written lies within the page. Assumes nothing.
+-- `replay::print_listing` is safe and ends: the listing lies within the page. Assumes nothing.
 use mathlib.Core.Path.{sym}
 use lib.Seq.{length-take-le}
 use borrow.Author.Needs.{needs}
-use Rattle.listing_text.specs.ListingLaws.{listing-within}
+use Rattle.listing_text.specs.PageLaws.{listing-within}
 use Rattle.replay.proofs.print_listing.Statement.{statement}
 use Rattle.replay.proofs.print_listing.Tie as tie
-
-slice-aggregate-list-table : tie.Need-slice-aggregate-list-table
-slice-aggregate-list-table c = search needs
 
 list-table-requires : tie.Need-list-table-requires
 list-table-requires c κs = search needs
@@ -28,10 +25,10 @@ write-all-requires-2 : tie.Need-write-all-requires-2
 write-all-requires-2 c κs = search needs
 
 array-share-prefix-page : tie.Need-array-share-prefix-page
-array-share-prefix-page c = listing-within _ _ (c .before .before .before .before .before .before .list-table .ensures .0) (c .before .before .before .before .before .before .list-table .ensures .1)
+array-share-prefix-page c = listing-within _ _ (c .before .before .before .before .before .list-table .ensures)
 
 slice-aggregate-write-all-3 : tie.Need-slice-aggregate-write-all-3
-slice-aggregate-write-all-3 c = sym (length-take-le _ _ (listing-within _ _ (c .before .before .before .before .before .before .before .list-table .ensures .0) (c .before .before .before .before .before .before .before .list-table .ensures .1)))
+slice-aggregate-write-all-3 c = sym (length-take-le _ _ (listing-within _ _ (c .before .before .before .before .before .before .list-table .ensures)))
 
 write-all-requires-3 : tie.Need-write-all-requires-3
 write-all-requires-3 c κs = search needs
@@ -43,7 +40,6 @@ pub print-listing-spec : {M : Type 1} → statement M
 print-listing-spec =
     tie.close
     (tie.spec
-    slice-aggregate-list-table
     list-table-requires
     slice-aggregate-write-all
     write-all-requires

@@ -1,8 +1,8 @@
--- `stored_tables::list_file` is safe and ends: what is written lies within the page. Assumes nothing.
+-- `stored_tables::list_file` is safe and ends: the listing lies within the page. Assumes nothing.
 use mathlib.Core.Path.{sym}
 use lib.Seq.{length-take-le}
 use borrow.Author.Needs.{needs}
-use Rattle.listing_text.specs.ListingLaws.{listing-within}
+use Rattle.listing_text.specs.PageLaws.{listing-within}
 use Rattle.stored_tables.proofs.list_file.Statement.{statement}
 use Rattle.stored_tables.proofs.list_file.Tie as tie
 
@@ -18,17 +18,14 @@ array-share-prefix-table c = search needs
 slice-aggregate-list-table : tie.Need-slice-aggregate-list-table
 slice-aggregate-list-table c = search needs
 
-slice-aggregate-list-table-2 : tie.Need-slice-aggregate-list-table-2
-slice-aggregate-list-table-2 c = search needs
-
 list-table-requires : tie.Need-list-table-requires
 list-table-requires c κs = search needs
 
 array-share-prefix-page : tie.Need-array-share-prefix-page
-array-share-prefix-page c = listing-within _ _ (c .before .list-table .ensures .0) (c .before .list-table .ensures .1)
+array-share-prefix-page c = listing-within _ _ (c .list-table .ensures)
 
 slice-aggregate-write-all : tie.Need-slice-aggregate-write-all
-slice-aggregate-write-all c = sym (length-take-le _ _ (listing-within _ _ (c .before .before .list-table .ensures .0) (c .before .before .list-table .ensures .1)))
+slice-aggregate-write-all c = sym (length-take-le _ _ (listing-within _ _ (c .before .list-table .ensures)))
 
 write-all-requires : tie.Need-write-all-requires
 write-all-requires c κs = search needs
@@ -44,7 +41,6 @@ list-file-spec =
     read-full-requires
     array-share-prefix-table
     slice-aggregate-list-table
-    slice-aggregate-list-table-2
     list-table-requires
     array-share-prefix-page
     slice-aggregate-write-all
