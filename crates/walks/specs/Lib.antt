@@ -1,7 +1,8 @@
+pub mod Call
+pub mod Element
+pub mod Function
 pub mod Lent
 pub mod Locals
-pub mod Call
-pub mod Struct
 pub mod Steps
-pub mod Function
+pub mod Struct
 pub mod Walk

@@ -4,6 +4,7 @@
 --     reborrows n m p          `&mut *x` or `&*x` of a slice in entry n: its reference goes to the room m, the slice made of it to the room p
 --     lands-at n, lands-as n   a call's result goes to the room n;  and is known there by another value
 --     resizes n                the slice in entry n, as a slice of another length, which is the same
+--     repoints n               the pointer in entry n, at another offset, which is the same
 --     copied n                 a copy of what the `&[T]` in entry n owns, in front
 --     slice-typed              the value of a slice is of its type
 -- Assumes `Given`.
@@ -65,6 +66,9 @@ module _ {M : Type 1} {𝓤 : URA M} {H : Heap 𝓤} {A : Atoms 𝓤} {K : Type 
   module _ {G : Goal 𝓤 H} where
     pub resizes : K → (n : ℕ) {q : Share} {τ : Ty} {b o : ℕ} {p : ℕ × ℕ} {k m : ℕ} → k ≡ m → nth 𝓤 H A n Γ ≡ ‵ (fat q τ b o (sliceVal p k)) → Step K W (put 𝓤 H A n (‵ (fat q τ b o (sliceVal p m))) Γ) G Γ G
     resizes t n {q} {τ} {b} {o} {p} e at-n = rewrite t n (λ (k : ℕ). ‵ (fat q τ b o (sliceVal p k))) e at-n
+
+    pub repoints : K → (n : ℕ) {q : Share} {τ : Ty} {b o a k m : ℕ} → k ≡ m → nth 𝓤 H A n Γ ≡ ‵ (fat q τ b o (vptr a k)) → Step K W (put 𝓤 H A n (‵ (fat q τ b o (vptr a m))) Γ) G Γ G
+    repoints t n {q} {τ} {b} {o} {a} e at-n = rewrite t n (λ (k : ℕ). ‵ (fat q τ b o (vptr a k))) e at-n
 
     pub copied : K → (n : ℕ) (R : RattleType) (κ : Lft) (x : RefT (List (R .Denot))) → nth 𝓤 H A n Γ ≡ ‵ (ShrSlice erased κ R .own x (slice-vals x)) → Step K W (‵ (ShrSlice erased κ R .own x (slice-vals x)) ∷ Γ) G Γ G
     copied t n R κ x e =

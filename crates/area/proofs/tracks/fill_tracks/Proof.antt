@@ -52,7 +52,7 @@ use Rattle.area.specs.declared.table.NextTrack.{NextTrack}
 use Rattle.area.specs.declared.table.TableHead.{TableHead}
 use Rattle.area.specs.declared.track.Track.{Track}
 use Rattle.walks.specs.Lent.{lends, comes-back}
-use Rattle.area.proofs.Elem.{R, name, makes, ty, val}
+use Rattle.area.proofs.Elem.{R, name, ty, val, track-type}
 use Rattle.area.proofs.Filling.{few-tracks, tracksTo, length-tracks, tracks-none, tracks-more, tracks-all, countTo, count-fits as to-fits, count-none, count-more, count-all, wordsTo, length-words, words-none, words-more, words-all}
 use Rattle.area.proofs.table.NextTrack as Nt
 use Rattle.area.proofs.table.NextTrack.Laws as Nt′
@@ -156,7 +156,7 @@ module _ {M : Type 1} (𝓤 : URA M) (H : Heap 𝓤) (A : Atoms 𝓤) where
   module _ (W : Given 𝓤 H A) where
     track-makes : Makes 𝓤 H A R IsTrack
     unfolding IsTrack
-    track-makes = makes 𝓤 H A W
+    track-makes = track-type .makes 𝓤 H A
 
     head-typed : (v : Val) (head : TableHead) → IsHead head (v ∷ []) → T (hasTy head-ty v) × WT v
     unfolding IsHead head-ty
