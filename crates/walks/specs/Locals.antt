@@ -17,7 +17,7 @@ use base.Logic.{SProp, ent, sep, id⊢, via, comm∗, monoR, assoc∗, assoc′}
 use base.Fml.{Fml, ftrue, ffalse, feq, flt, fsep, fand, for, fwand, fex, fall, fupd, fat, froom, fdies, flft, fdead, fobs, fauth, fres, fbor, fobor, flent, fshr-bor}
 use prog.Wp.{Heap, Env, Calls, Loops, WpFn}
 use ghost.Atoms.{Atoms}
-use types.Kit.{Given, Item, ‵, raw, _⊛_, some as one, given, later, ⋆, mean, push, pop, ++⊢, ⊢++, Goal, prop, runs, atRet, allocs, passes, frees, aim, params′, Seq, Sq, Step, step, _$_, _∵_, !, qed, by, move, split, join, use1}
+use types.Kit.{Given, Item, ‵, raw, _⊛_, some as one, given, later, ⋆, mean, push, pop, ++⊢, ⊢++, Goal, runs, atRet, allocs, passes, frees, params′, Sq, Step, step, _$_, _∵_, !, qed, by, move, split, join, use1}
 use types.Run.{enter, alloc1, alloc0, params1, pass1, pass0, init, free1, free0}
 
 abbrev pub Places : List Ty → Type 0

@@ -22,7 +22,7 @@ use prog.Wp.{Heap, Out, Env, afterSeq, afterBlock, afterTurn, Calls, Loops, Wp, 
 use ghost.Atoms.{Atoms, sem}
 use contract.Monad.{fact, Fun}
 use contract.Running.{givenOf, tables, tablesOf}
-use types.Kit.{Given, Item, ‵, raw, _⊛_, some, later, ⋆, runs, anyQ, atRet, Sq, _$_, _∵_, !, qed, by, move, keep, drop, use1, use2, use3, split, join, pick, rewrite, fsplit, fjoin, feqL, suffices, frame, await, done, given, mean, cut, learn, updating, now as at-once, show, check}
+use types.Kit.{Given, Item, ‵, raw, _⊛_, some, later, ⋆, runs, anyQ, atRet, Sq, _$_, _∵_, !, qed, by, move, keep, drop, use1, use2, split, join, pick, rewrite, fsplit, fjoin, feqL, suffices, frame, await, done, given, mean, cut, learn, updating, now as at-once, show, check}
 use borrow.Author.Tests.{ltb-true, ltb-false}
 use types.Tokens.{lft-new, lft-end}
 use types.Run.{look, init, store, forget, stop, hop, fld, from, load, lit, of-opd, bin, un, addr, and-then, no-more, assigns, assigns-last, stays, leaves-loop, land, first, blocks, returns, exec, Below, again, loops, enter, alloc1, alloc0, params1, pass1, pass0, free1, free0}

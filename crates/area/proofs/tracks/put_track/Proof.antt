@@ -3,14 +3,13 @@ use contract.Running.{tablesOf}
 use lib.ListN.{set, length-set}
 use lib.Seq.{set-out}
 use denote.Plain.{Nothing, nothing-makes}
-use Rattle.walks.specs.Walk.{_≡_, refl, sym, _∙_, List, [], _∷_, ℕ, _<_, _^_, ltb→lt, nltb→le, length, getD, URA, fullShare, Ty, named, imm, mut, w32, w64, tyInt, tyRef, tyBool, tyPtr, tyUnit, Val, vunit, SProp, ent, emp, via, fst∗, Lft, Share, Memory, Routine, Heap, WpFn, Tables, Atoms, Fun, givenOf, tables, flat, Given, Sq, runs, atRet, _$_, !, by, move, drop}
-use Rattle.walks.specs.Walk.{look, look-raw, lit, unit-lit, stop, hop, from, load, bin, of-opd, no-more, assigns, assigns-last, init, store-raw, first, branches, skips, exec, returns, returns-within, WpFn-mono, FmC, fmOf, Is, shows, uint-lawful, uint-vals, uint-tells, u32, usize, RefT, sliceTy, Room, owned, onEntry, Meets, tripleOf, entered, cited, walkOf, walked, walk-meets}
+use Rattle.walks.specs.Walk.{_≡_, refl, sym, List, [], _∷_, ℕ, _<_, _^_, ltb→lt, nltb→le, length, URA, Ty, named, mut, w64, tyInt, tyRef, tyBool, tyPtr, tyUnit, Val, vunit, SProp, ent, emp, via, fst∗, Lft, Share, Memory, Routine, Heap, WpFn, Tables, Atoms, Fun, givenOf, tables, flat, Given, Sq, runs, atRet, _$_, !, by, move}
+use Rattle.walks.specs.Walk.{look, lit, unit-lit, stop, hop, from, bin, of-opd, assigns, assigns-last, init, store-raw, first, branches, skips, exec, returns, WpFn-mono, Is, uint-vals, uint-tells, usize, RefT, sliceTy, Room, owned, onEntry, Meets, tripleOf, entered, walkOf, walked, walk-meets}
 use Rattle.walks.specs.Lent.{renamed}
 use Rattle.walks.specs.Locals.{Places, env, leaves}
-use Rattle.walks.specs.Call.{Arg, given, rows, values, wordss, Lasts, num, of-struct}
+use Rattle.walks.specs.Call.{Arg, given, rows, values, wordss, num, of-struct}
 use Rattle.walks.specs.Element.{at-place, opens-at, closes-at, gives-up}
 use Rattle.walks.specs.Steps.{reads, part, repoints, slice-typed}
-use Rattle.walks.specs.Struct.{Struct}
 use Rattle.walks.specs.Function.{Param, value, exclusive, stays, spells, tells, goes, entry, begins, AtEnd, finishes}
 use Rattle.area.specs.Track.{noTrack}
 use Rattle.area.specs.declared.track.Track.{Track}
