@@ -1,9 +1,10 @@
+pub mod Call
+pub mod Element
+pub mod Function
 pub mod Lent
 pub mod Locals
-pub mod Call
-pub mod Struct
 pub mod Steps
-pub mod Function
+pub mod Struct
 pub mod Walk
 pub mod Handing
 pub mod Statement

@@ -35,8 +35,8 @@ abbrev params : List (Param 3)
 params = shared 0 tt u8 ∷ value Ar.the-row (LL.vals Ar.the-type Ar.Laws.the-laws) (LL.tells Ar.the-type Ar.Laws.the-laws) (λ κs x f. refl) ∷ shared 1 tt R ∷ value u32 (uint-vals w32) (uint-tells w32) (λ κs x f. refl) ∷ value u32 (uint-vals w32) (uint-tells w32) (λ κs x f. refl) ∷ exclusive 2 tt u8 ∷ []
 
 -- the locals
-abbrev types : List Ty
-types = answer-type .ty ∷ sliceTy (tyRef (named 0) imm (tyInt w8)) ∷ area-type .ty ∷ sliceTy (tyRef (named 1) imm name) ∷ tyInt w32 ∷ tyInt w32 ∷ sliceTy (tyRef (named 2) mut (tyInt w8)) ∷ tyInt w32 ∷ tyInt w64 ∷ tyRef erased mut (tyInt w8) ∷ sliceTy (tyRef erased mut (tyInt w8)) ∷ []
+abbrev locals : List Ty
+locals = answer-type .ty ∷ sliceTy (tyRef (named 0) imm (tyInt w8)) ∷ area-type .ty ∷ sliceTy (tyRef (named 1) imm name) ∷ tyInt w32 ∷ tyInt w32 ∷ sliceTy (tyRef (named 2) mut (tyInt w8)) ∷ tyInt w32 ∷ tyInt w64 ∷ tyRef erased mut (tyInt w8) ∷ sliceTy (tyRef erased mut (tyInt w8)) ∷ []
 
 -- the text of a number's track is the one at its place
 text-by-number : (lent : List ℕ) (area : Area) (ys : List Track) (number item j p : ℕ) → j ≡ trackIndex number → p ≡ placeOf (getD ys j noTrack .text) item
@@ -86,7 +86,7 @@ module _ {M : Type 1} (𝓤 : URA M) (H : Heap 𝓤) (A : Atoms 𝓤) (W : Given
     same j p = text-by-number (s .now) area (tr .now) number item j p
 
     -- the body. The context is [tokens; what table, tracks and page own; _0; _1; …]
-    body : (bs : Places types) → Sq W (entry W 3 (κ₀, (κ₁, (κ₂, tt))) (q₀, (q₁, (q₂, tt))) mine types bs) (runs (𝓣 .C) (𝓣 .Λ) (env types bs) mir.t-1 (atRet (env types bs) Post))
+    body : (bs : Places locals) → Sq W (entry W 3 (κ₀, (κ₁, (κ₂, tt))) (q₀, (q₁, (q₂, tt))) mine locals bs) (runs (𝓣 .C) (𝓣 .Λ) (env locals bs) mir.t-1 (atRet (env locals bs) Post))
     body bs =
         calls W usize (Is usize) (shows 𝓤 H A usize) 0 tt tt to-index (λ j ws. j ≡ trackIndex number) _ ! fm (known-index ((tt, tt, tt, values to-index, wordss to-index), tt)) (and-reads ! 10 refl (no-more !)) (λ u j _ j-is e _. drop ! $
         lands-as ! 14 refl (ap only (uint-tells w64 j (u ∷ []) j-is)) (uint-lawful 𝓤 H A W w64 .typed j (u ∷ []) j-is .0) $
@@ -103,7 +103,7 @@ module _ {M : Type 1} (𝓤 : URA M) (H : Heap 𝓤) (A : Atoms 𝓤) (W : Given
         calls-by W D.the-row (answer-type .laws .has) (answer-type .laws .shows 𝓤 H A) 2 (κ₀, (κ₂, tt)) (q₀, (q₂, tt)) (to-of-track p (p-is .1)) _ (Answered p (p-is .1)) (λ d ws. both 𝓤 _ _) _ ! fm
         (known-of-track (((κ₀, (κ₂, tt)), (q₀, (q₂, tt)), tt, values (to-of-track p (p-is .1)), wordss (to-of-track p (p-is .1))), tt))
         (and-reads ! 8 refl (and-reads ! 9 refl (and-reads ! 15 refl (and-reads ! 14 refl (and-reads ! 11 refl (and-reads ! 12 refl (and-reads ! 17 refl (no-more !)))))))) (λ w d ws d-is g longs. drop ! $
-        lands-at ! 6 refl (answer-type .laws .typed 𝓤 H A W d w d-is) $ returns ! (look ! 6 refl) $ leaves ! 6 refl tt $ move ! (0 ∷ 3 ∷ 1 ∷ 4 ∷ 5 ∷ 2 ∷ []) $
+        lands-at ! 6 refl (answer-type .laws .typed 𝓤 H A W d w d-is) $ returns ! (look ! 6 refl) $ leaves ! 6 refl $ move ! (0 ∷ 3 ∷ 1 ∷ 4 ∷ 5 ∷ 2 ∷ []) $
         by ! (exits d w (ws .1 .1 .1 .1 .1 .1 .0) d-is (g .0 ∙ ap (λ (x : Text). textAnswer x (length (pg .now))) (same j p e f), g .1 ∙ ap (λ (x : Text). textPage x (pg .now)) (same j p e f)) (longs .0)))))
       where
         fm : FmC 𝓤 H (W .laws) (𝓣 .C)

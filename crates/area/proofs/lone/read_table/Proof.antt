@@ -66,8 +66,8 @@ abbrev params : List (Param 3)
 params = shared 0 tt u8 ∷ exclusive 1 tt R ∷ exclusive 2 tt u32 ∷ []
 
 -- the locals
-abbrev types : List Ty
-types = answer-type .ty ∷ sliceTy (tyRef (named 0) imm (tyInt w8)) ∷ sliceTy (tyRef (named 1) mut name) ∷ sliceTy (tyRef (named 2) mut (tyInt w32)) ∷ plan-ty ∷ head-type .ty ∷ tyInt w64 ∷ tyInt w64 ∷ tyInt w64
+abbrev locals : List Ty
+locals = answer-type .ty ∷ sliceTy (tyRef (named 0) imm (tyInt w8)) ∷ sliceTy (tyRef (named 1) mut name) ∷ sliceTy (tyRef (named 2) mut (tyInt w32)) ∷ plan-ty ∷ head-type .ty ∷ tyInt w64 ∷ tyInt w64 ∷ tyInt w64
     ∷ tyRef erased mut (tyInt w32) ∷ sliceTy (tyRef erased mut (tyInt w32)) ∷ tyRef erased mut name ∷ sliceTy (tyRef erased mut name) ∷ tyRef erased mut (tyInt w32) ∷ sliceTy (tyRef erased mut (tyInt w32)) ∷ []
 
 module _ {M : Type 1} (𝓤 : URA M) (H : Heap 𝓤) (A : Atoms 𝓤) (W : Given 𝓤 H A) (mem : Memory → SProp 𝓤) (run : Routine → Fun 𝓤) (𝓣 : Tables 𝓤 H) (known-plan : Meets 𝓤 H A plan-table.signature (𝓣 .C plan-table.Symbol.name) (plan-table.spec 𝓤 H A mem run))
@@ -115,7 +115,7 @@ module _ {M : Type 1} (𝓤 : URA M) (H : Heap 𝓤) (A : Atoms 𝓤) (W : Given
       to-answer n fits = of-struct plan-type plan (plan-val plan) (still plan-type plan v is) ∷ num W w64 n fits ∷ []
 
     -- the body. The context is [tokens; what table, tracks and words own; _0; _1; …]
-    body : (bs : Places types) → Sq W (entry W 3 κs qs mine types bs) (runs (𝓣 .C) (𝓣 .Λ) (env types bs) mir.t-1 (atRet (env types bs) Post))
+    body : (bs : Places locals) → Sq W (entry W 3 κs qs mine locals bs) (runs (𝓣 .C) (𝓣 .Λ) (env locals bs) mir.t-1 (atRet (env locals bs) Post))
     body bs =
         assigns ! (of-opd ! (part ! 8 1 refl refl refl)) (from ! (stop !)) (init ! 14 refl (tt, record { fits = track-room .0 })) $
         reborrows ! 9 15 16 refl refl refl (tt, tt) refl refl refl (slice-typed (word-room .0)) $
@@ -137,7 +137,7 @@ module _ {M : Type 1} (𝓤 : URA M) (H : Heap 𝓤) (A : Atoms 𝓤) (W : Given
         -- `table_answer`
         calls W Ans.the-row (answer-type .laws .has) (answer-type .laws .shows 𝓤 H A) 0 tt tt (to-answer plan w is (ws .1 .1 .0) n (n-is .1)) (λ v _. v ≡ planAnswer plan n) _ ! fm
         (known-answer ((tt, tt, tt, values (to-answer plan w is (ws .1 .1 .0) n (n-is .1)), wordss (to-answer plan w is (ws .1 .1 .0) n (n-is .1))), tt)) (and-reads ! 10 refl (and-reads ! 13 refl (no-more !))) (λ u v _ v-is g _. drop ! $
-        lands-at ! 6 refl (answer-type .laws .typed 𝓤 H A W v u v-is) $ returns ! (look ! 6 refl) $ leaves ! 6 refl tt $ move ! (0 ∷ 1 ∷ 2 ∷ 5 ∷ 3 ∷ 4 ∷ []) $
+        lands-at ! 6 refl (answer-type .laws .typed 𝓤 H A W v u v-is) $ returns ! (look ! 6 refl) $ leaves ! 6 refl $ move ! (0 ∷ 1 ∷ 2 ∷ 5 ∷ 3 ∷ 4 ∷ []) $
         by ! (exits v u (zs .1 .1 .0) (zs .1 .1 .1 .1 .0) v-is (lone-read (s .now) (tracks .now) (words .now) plan (ws .1 .1 .0) n (zs .1 .1 .0) (zs .1 .1 .1 .1 .0) v (e .0) (e .1) (f .0) (f .1 .0) (f .1 .1) g) (longs .0) (longs .1 .0 ∙ long))))))))
       where
         fm : FmC 𝓤 H (W .laws) (𝓣 .C)

@@ -112,7 +112,7 @@ module _ {M : Type 1} (𝓤 : URA M) (H : Heap 𝓤) (A : Atoms 𝓤) (W : Given
         calls-by W D.the-row (answer-type .laws .has) (answer-type .laws .shows 𝓤 H A) 2 (κ₀, (κ₂, tt)) (q₀, (q₂, tt)) (to-of-track p (p-is .1)) _ (Answered p (p-is .1)) (λ d ws. both 𝓤 _ _) _ ! fm
         (known-of-track (((κ₀, (κ₂, tt)), (q₀, (q₂, tt)), tt, values (to-of-track p (p-is .1)), wordss (to-of-track p (p-is .1))), tt))
         (and-reads ! 8 refl (and-reads ! 9 refl (and-reads ! 15 refl (and-reads ! 14 refl (and-reads ! 11 refl (and-reads ! 12 refl (and-reads ! 17 refl (no-more !)))))))) (λ w d ws d-is g longs. drop ! $
-        lands-at ! 6 refl (answer-type .laws .typed 𝓤 H A W d w d-is) $ returns ! (look ! 6 refl) $ leaves ! 6 refl tt $ move ! (0 ∷ 3 ∷ 1 ∷ 4 ∷ 5 ∷ 2 ∷ []) $
+        lands-at ! 6 refl (answer-type .laws .typed 𝓤 H A W d w d-is) $ returns ! (look ! 6 refl) $ leaves ! 6 refl $ move ! (0 ∷ 3 ∷ 1 ∷ 4 ∷ 5 ∷ 2 ∷ []) $
         by ! (exits d w (ws .1 .1 .1 .1 .1 .1 .0) d-is (asked-same _ _ (pg .now) d (ws .1 .1 .1 .1 .1 .1 .0) (same j p e f) (g .0) (g .1)) (longs .0)))))
       where
         fm : FmC 𝓤 H (W .laws) (𝓣 .C)

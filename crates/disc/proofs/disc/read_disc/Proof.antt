@@ -222,7 +222,7 @@ module _ {M : Type 1} (𝓤 : URA M) (H : Heap 𝓤) (A : Atoms 𝓤) (W : Given
         calls W Ans.the-row (answer-type .laws .has) (answer-type .laws .shows 𝓤 H A) 1 (κ₁, tt) (q₁, tt) (to-answer (renamed work g (zs .1 .1 .0)) o w o-is x w₁ x-is y w₂ y-is) (λ v _. v ≡ answerBy format (length (image .now)) (zs .1 .1 .0) o x y) _ ! fm
         (known-answer (((κ₁, tt), (q₁, tt), tt, values (to-answer (renamed work g (zs .1 .1 .0)) o w o-is x w₁ x-is y w₂ y-is), wordss (to-answer (renamed work g (zs .1 .1 .0)) o w o-is x w₁ x-is y w₂ y-is)), tt))
         (and-reads ! 10 refl (and-reads ! 21 refl (and-reads ! 16 refl (and-reads ! 15 refl (and-reads ! 17 refl (and-reads ! 18 refl (no-more !))))))) (λ u v _ v-is k _. drop ! $
-        lands-at ! 8 refl (answer-type .laws .typed 𝓤 H A W v u v-is) $ returns ! (look ! 8 refl) $ leaves ! 8 refl tt $ move ! (6 ∷ 0 ∷ 1 ∷ 2 ∷ 7 ∷ 5 ∷ 3 ∷ 4 ∷ []) $
+        lands-at ! 8 refl (answer-type .laws .typed 𝓤 H A W v u v-is) $ returns ! (look ! 8 refl) $ leaves ! 8 refl $ move ! (6 ∷ 0 ∷ 1 ∷ 2 ∷ 7 ∷ 5 ∷ 3 ∷ 4 ∷ []) $
         by ! (exits v u (zs .1 .1 .0) (vs .1 .1 .1 .0) (vs .1 .1 .1 .1 .0) v-is (said v (zs .1 .1 .0) (vs .1 .1 .1 .0) (vs .1 .1 .1 .1 .0) (disc-read format (image .now) (work .now) (tracks .now) (words .now) o (zs .1 .1 .0) (zs .1 .1 .1 .1 .0) x y (us .1 .1 .1 .0) (vs .1 .1 .1 .0) (us .1 .1 .1 .1 .0) (vs .1 .1 .1 .1 .0) v
         (e .0) (e .1 .0) (e .1 .1) (f .0) (f .1 .0) (f .1 .1) (h .0) (h .1 .0) (h .1 .1) k)) long-work (longs .0 ∙ long-tracks) (longs .1 .0 ∙ long-words′ ∙ long-words)))))))))))))))))))
       where

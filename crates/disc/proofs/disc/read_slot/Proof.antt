@@ -4,10 +4,8 @@ use contract.Running.{tablesOf}
 use denote.Struct.Laws as LL
 use lib.Seq.{sets}
 use mathlib.Core.List.{map}
-use types.Kit.{‵, rewrite}
-use denote.Slice.{shr-slice-tells, shr-slice-lawful}
 use Rattle.walks.specs.Walk.{_≡_, refl, sym, _∙_, ap, subst, List, [], _∷_, ℕ, _<_, _^_, length, URA, fullShare, Ty, Sym, named, erased, imm, mut, w8, w32, w64, tyInt, tyRef, tyStruct, tcons, tnil, Val, vint, vstruct, vcons, vnil, SProp, ent, emp, via, fst∗, Lft, Share, GName}
-use Rattle.walks.specs.Walk.{Memory, Routine, Heap, WpFn, Tables, Atoms, Fun, Lfts, Shares, givenOf, tables, flat, Given, Sq, runs, atRet, _$_, !, by, move, drop, lft-new, lft-end, look, stop, from, of-opd, and-then, no-more, assigns, init, returns, WpFn-mono, FmC, fmOf, RattleType, Is, shows, pointee, uint-lawful, uint-vals, uint-tells, u8, u32, usize, RefT, sliceTy, ShrSlice, Room, only, onEntry, Meets, tripleOf, entered, cited, walkOf, walked, walk-meets}
+use Rattle.walks.specs.Walk.{Memory, Routine, Heap, WpFn, Tables, Atoms, Fun, Lfts, Shares, givenOf, tables, flat, Given, Sq, ‵, runs, atRet, _$_, !, by, move, drop, rewrite, lft-new, lft-end, look, stop, from, of-opd, and-then, no-more, assigns, init, returns, WpFn-mono, FmC, fmOf, RattleType, Is, shows, pointee, uint-lawful, uint-vals, uint-tells, u8, u32, usize, RefT, sliceTy, ShrSlice, Room, shr-slice-tells, shr-slice-lawful, only, onEntry, Meets, tripleOf, entered, cited, walkOf, walked, walk-meets}
 use Rattle.walks.specs.Lent.{renamed, lends, comes-back}
 use Rattle.walks.specs.Locals.{Places, env, leaves}
 use Rattle.walks.specs.Call.{Arg, given, rows, values, wordss, Lasts, calls, num, slice, of-struct}
@@ -174,7 +172,7 @@ module _ {M : Type 1} (𝓤 : URA M) (H : Heap 𝓤) (A : Atoms 𝓤) (W : Given
         -- `slot_read`
         calls W Rd.the-row (read-type .laws .has) (read-type .laws .shows 𝓤 H A) 0 tt tt (to-answer plan w is (us .1 .1 .1 .0) x base (b-is .1) n (n-is .1)) (λ v _. v ≡ slotReadOf plan n) _ ! fm
         (known-answer ((tt, tt, tt, values (to-answer plan w is (us .1 .1 .1 .0) x base (b-is .1) n (n-is .1)), wordss (to-answer plan w is (us .1 .1 .1 .0) x base (b-is .1) n (n-is .1))), tt)) (and-reads ! 13 refl (and-reads ! 15 refl (no-more !))) (λ u v _ v-is g _. drop ! $
-        lands-at ! 6 refl (read-type .laws .typed 𝓤 H A W v u v-is) $ returns ! (look ! 6 refl) $ leaves ! 6 refl tt $ move ! (0 ∷ 1 ∷ 2 ∷ 5 ∷ 3 ∷ 4 ∷ []) $
+        lands-at ! 6 refl (read-type .laws .typed 𝓤 H A W v u v-is) $ returns ! (look ! 6 refl) $ leaves ! 6 refl $ move ! (0 ∷ 1 ∷ 2 ∷ 5 ∷ 3 ∷ 4 ∷ []) $
         by ! (exits v u (zs .1 .1 .0) (zs .1 .1 .1 .1 .0) v-is (joined plan w is (us .1 .1 .1 .0) x base (b-is .1) n (zs .1 .1 .0) (zs .1 .1 .1 .1 .0) v e ex eb f g) (longs .0) (longs .1 .0 ∙ long))))))))))
       where
         fm : FmC 𝓤 H (W .laws) (𝓣 .C)
