@@ -1,7 +1,7 @@
 -- `draws::print_draws` meets its contract: a walk of its MIR, by hand, with a loop. A cursor that `text_cursor` returns is held in a local
 -- and lent by `&mut` to `draw` at each turn, as in `area::cursor::count_items`; the item is taken apart for `print_item`. All that the
 -- proof knows of the three callees is that each meets its contract. The draws that are left fall with each turn. Assumes nothing.
-use mathlib.Core.Path.{_≡_, refl, ap, _∙_}
+use mathlib.Core.Path.{_≡_, refl, ap}
 use mathlib.Core.Bool.{Bool, true, false, not}
 use mathlib.Core.WellFounded.{WellFounded, InvImage·wf}
 use Prim.Native.Nat.{ℕ, min, _+_, _-_, _≤_, _<_, _^_}
@@ -264,23 +264,11 @@ module _ {M : Type 1} (𝓤 : URA M) (H : Heap 𝓤) (A : Atoms 𝓤) (W : Given
       → ent 𝓤 (ensured 𝓤 H A print.ended (print.clauses 𝓤 H A at-mem run) (κ, tt) (parts-of d) tt r) (fact 𝓤 (r ≡ d .found))
   print-said d r = exE 𝓤 _ (λ ws. snd∗ 𝓤 (sem 𝓤 H A (lasts print.ended (κ, tt) (parts-of d) ws)) (fact 𝓤 (r ≡ d .found)))
 
-  -- a state of the loop: where the cursor stands, and how many draws were made before
+  -- a state of the loop: the cursor, and how many draws were made before
   record State : Type 0 where
-    next : ℕ
-    left : ℕ
+    held : TextCursor
     drawn : ℕ
     few : drawn ≤ k
-
-  abbrev held : State → TextCursor
-  held t = record { table = s; next = t .next; left = t .left }
-
-  -- where a draw leaves the cursor
-  abbrev gone-on : State → TextCursor
-  gone-on t = record { table = s; next = drawOf (held t) .next; left = drawOf (held t) .left }
-
-  goes-on : (t : State) → movedOn (held t) ≡ gone-on t
-  unfolding movedOn
-  goes-on t = refl
 
   abbrev Fewer : State → State → Type 0
   Fewer t′ t = k - t′ .drawn < k - t .drawn
@@ -289,7 +277,7 @@ module _ {M : Type 1} (𝓤 : URA M) (H : Heap 𝓤) (A : Atoms 𝓤) (W : Given
   Fewer-wf = InvImage·wf (λ (t : State). k - t .drawn) (Nat·lt-wfRel .wf)
 
   abbrev onward : (t : State) → t .drawn < k → State
-  onward t below = record { next = gone-on t .next; left = gone-on t .left; drawn = t .drawn + 1; few = omega arith }
+  onward t below = record { held = movedOn (t .held); drawn = t .drawn + 1; few = omega arith }
 
   module _ (𝓣 : Tables 𝓤 H) (known-new : Triple 𝓤 (𝓣 .C #area·cursor·text-cursor) (New 𝓤 H A at-mem run))
       (known-draw : Triple 𝓤 (𝓣 .C #area·cursor·draw) (Drawing 𝓤 H A at-mem run))
@@ -299,7 +287,7 @@ module _ {M : Type 1} (𝓤 : URA M) (H : Heap 𝓤) (A : Atoms 𝓤) (W : Given
       En = (typeAt 0, l₀) ∷ (typeAt 1, l₁) ∷ (typeAt 2, l₂) ∷ (typeAt 3, l₃) ∷ (typeAt 4, l₄) ∷ (typeAt 5, l₅) ∷ (typeAt 6, l₆) ∷ (typeAt 7, l₇) ∷ (typeAt 8, l₈) ∷ (typeAt 9, l₉) ∷ (typeAt 10, l₁₀) ∷ (typeAt 11, l₁₁) ∷ (typeAt 12, l₁₂) ∷ (typeAt 13, l₁₃) ∷ []
 
       abbrev At : State → List (Item 𝓤)
-      At t = ‵ (B₁ κ .own (held t) (T′.lowered (held t) ∷ [])) ∷ ‵ (flft κ q) ∷ ‵ Own ∷
+      At t = ‵ (B₁ κ .own (t .held) (T′.lowered (t .held) ∷ [])) ∷ ‵ (flft κ q) ∷ ‵ Own ∷
           ‵ (froom (typeAt 13) l₁₃ 0) ∷ ‵ (fdies (typeAt 13) l₁₃) ∷
           ‵ (froom (typeAt 12) l₁₂ 0) ∷ ‵ (fdies (typeAt 12) l₁₂) ∷
           ‵ (froom (typeAt 11) l₁₁ 0) ∷ ‵ (fdies (typeAt 11) l₁₁) ∷
@@ -308,7 +296,7 @@ module _ {M : Type 1} (𝓤 : URA M) (H : Heap 𝓤) (A : Atoms 𝓤) (W : Given
           ‵ (froom (typeAt 8) l₈ 0) ∷ ‵ (fdies (typeAt 8) l₈) ∷
           ‵ (froom (typeAt 7) l₇ 0) ∷ ‵ (fdies (typeAt 7) l₇) ∷
           ‵ (fat fullShare (typeAt 6) l₆ 0 (vint w64 (t .drawn))) ∷ ‵ (fdies (typeAt 6) l₆) ∷
-          ‵ (fat fullShare (typeAt 5) l₅ 0 (T′.lowered (held t))) ∷ ‵ (fdies (typeAt 5) l₅) ∷
+          ‵ (fat fullShare (typeAt 5) l₅ 0 (T′.lowered (t .held))) ∷ ‵ (fdies (typeAt 5) l₅) ∷
           ‵ (fat fullShare (typeAt 4) l₄ 0 (vint w64 k)) ∷ ‵ (fdies (typeAt 4) l₄) ∷
           ‵ (fat fullShare (typeAt 3) l₃ 0 (vint w64 m)) ∷ ‵ (fdies (typeAt 3) l₃) ∷
           ‵ (fat fullShare (typeAt 2) l₂ 0 (vint w64 n)) ∷ ‵ (fdies (typeAt 2) l₂) ∷
@@ -325,30 +313,30 @@ module _ {M : Type 1} (𝓤 : URA M) (H : Heap 𝓤) (A : Atoms 𝓤) (W : Given
           assigns ! (addr ! (from ! (stop !))) (from ! (stop !)) (init ! 11 refl (tt, tt)) $
           -- the cursor is lent for ν within 'a
           move ! (19 ∷ 0 ∷ []) $
-          use1 W (‵ (cellAt fullShare (B₁ κ .mir) (T′.lowered (held t) ∷ []) l₅ 0))
-          (W .laws .at-raw fullShare (T′.mir erased) l₅ 0 (T′.lowered (held t))) $
-          use2 W (‵ (partAt (B₁ κ) fullShare (held t) l₅ 0)) (lies-in (held t) l₅) $ lft-new ! tt (λ ν.
+          use1 W (‵ (cellAt fullShare (B₁ κ .mir) (T′.lowered (t .held) ∷ []) l₅ 0))
+          (W .laws .at-raw fullShare (T′.mir erased) l₅ 0 (T′.lowered (t .held))) $
+          use2 W (‵ (partAt (B₁ κ) fullShare (t .held) l₅ 0)) (lies-in (t .held) l₅) $ lft-new ! tt (λ ν.
           move ! (2 ∷ []) $ use1 W (‵ (flft κ (PosShare·left q)) ⊛ ‵ (flft κ (PosShare·right q))) (W .lfts .lft-split κ q) $ split ! $
           move ! (2 ∷ 1 ∷ []) $
           use2 W (‵ (flft (ν ∷ κ) (PosShare·right q)) ⊛ raw (Rest 𝓤 H A W ν (PosShare·right q))) (within-token 𝓤 H A W ν κ (PosShare·right q)) $
           split ! $
-          move ! (3 ∷ []) $ use1 W (later (some (λ (δ : GName). ‵ (MutRef (named 0) (ν ∷ κ) (B₁ κ) .own (x (held t) l₅ δ) (vptr l₅ 0 ∷ [])) ⊛ ‵
+          move ! (3 ∷ []) $ use1 W (later (some (λ (δ : GName). ‵ (MutRef (named 0) (ν ∷ κ) (B₁ κ) .own (x (t .held) l₅ δ) (vptr l₅ 0 ∷ [])) ⊛ ‵
           (flent (ν ∷ κ) (Body (mem (B₁ κ)) l₅ 0 δ)))))
-          (lends-ref 𝓤 H A W (B₁ κ) (named 0) (ν ∷ κ) (held t) l₅ 0) $ await ! tt $ pick ! (λ δ. split ! $
+          (lends-ref 𝓤 H A W (B₁ κ) (named 0) (ν ∷ κ) (t .held) l₅ 0) $ await ! tt $ pick ! (λ δ. split ! $
           -- [the reference; the lender's part; ν's token; its way back; half of 'a's; what s owns; _13; …]
-          move ! (2 ∷ 4 ∷ 0 ∷ []) $ use3 W (raw (Drawing 𝓤 H A at-mem run .pre (to-draw (held t) l₅ ν δ))) (goes-draw (held t) l₅ ν δ) $
-          calls-at ! (fmOf 𝓤 H (W .laws) 𝓣) (Drawing 𝓤 H A at-mem run) known-draw (to-draw (held t) l₅ ν δ)
+          move ! (2 ∷ 4 ∷ 0 ∷ []) $ use3 W (raw (Drawing 𝓤 H A at-mem run .pre (to-draw (t .held) l₅ ν δ))) (goes-draw (t .held) l₅ ν δ) $
+          calls-at ! (fmOf 𝓤 H (W .laws) 𝓣) (Drawing 𝓤 H A at-mem run) known-draw (to-draw (t .held) l₅ ν δ)
           (and-then ! (load ! (from ! (stop !)) (look ! 12 refl)) (no-more !)) (λ w.
           use1 W (later (some (λ (d : TextItem). ((‵ (flft (ν ∷ κ) (PosShare·right q)) ⊛ ‵ (flft κ (PosShare·left q)) ⊛ ‵ ftrue) ⊛ ‵
           (I₁ κ .own d (w ∷ [])))
-          ⊛ raw (ensured 𝓤 H A draw.ended (draw.clauses 𝓤 H A at-mem run) (ν ∷ κ, (κ, tt)) (x (held t) l₅ δ, tt) tt d)))) (id⊢ 𝓤 _) $ await ! tt $
+          ⊛ raw (ensured 𝓤 H A draw.ended (draw.clauses 𝓤 H A at-mem run) (ν ∷ κ, (κ, tt)) (x (t .held) l₅ δ, tt) tt d)))) (id⊢ 𝓤 _) $ await ! tt $
           pick ! (λ d.
           split ! $ move ! (1 ∷ []) $
-          use1 W (some (λ (ws : TextCursor × Unit {0}). ‵ (lasts draw.ended (ν ∷ κ, (κ, tt)) (x (held t) l₅ δ, tt) ws) ⊛ raw
-          (fact 𝓤 (Told (held t) d (ws .0))))) (id⊢ 𝓤 _) $
-          pick ! (λ ws. split ! $ move ! (1 ∷ []) $ heard ! (Told (held t) d (ws .0)) (λ e. fsplit ! $
+          use1 W (some (λ (ws : TextCursor × Unit {0}). ‵ (lasts draw.ended (ν ∷ κ, (κ, tt)) (x (t .held) l₅ δ, tt) ws) ⊛ raw
+          (fact 𝓤 (Told (t .held) d (ws .0))))) (id⊢ 𝓤 _) $
+          pick ! (λ ws. split ! $ move ! (1 ∷ []) $ heard ! (Told (t .held) d (ws .0)) (λ e. fsplit ! $
           -- [the cursor's last value; …; the tokens and the item; the lender's part; the way back; what s owns; _13; …]
-          rewrite ! 0 (λ (c : TextCursor). ‵ (fres δ (B₁ κ .coded .code c))) (e .4 ∙ goes-on t) refl $
+          rewrite ! 0 (λ (c : TextCursor). ‵ (fres δ (B₁ κ .coded .code c))) (e .4) refl $
           move ! (2 ∷ []) $ split ! $ move ! (1 ∷ []) $ peeks ! (I₁ κ) (Is (I₁ κ)) (shows 𝓤 H A (I₁ κ)) d (w ∷ []) (λ is.
           land ! (from ! (stop !)) (init ! 19 refl (LL.lawful (S.the-type αᵉ) (S′.the-laws αᵉ) 𝓤 H A W .typed d _ is .0)) $
           rewrite ! 19 (λ (z : Val). ‵ (fat fullShare (typeAt 7) l₇ 0 z))
@@ -357,9 +345,9 @@ module _ {M : Type 1} (𝓤 : URA M) (H : Heap 𝓤) (A : Atoms 𝓤) (W : Given
           move ! (1 ∷ []) $ split ! $ move ! (0 ∷ 6 ∷ []) $
           use2 W (later (‵ (fdead (ν ∷ κ)) ⊛ ‵ (flft κ (PosShare·right q)))) (within-end 𝓤 H A W ν κ (PosShare·right q)) $ await ! tt $ split ! $
           move ! (0 ∷ 6 ∷ 4 ∷ []) $
-          use3 W (later (‵ (partAt (B₁ κ) fullShare (gone-on t) l₅ 0))) (ref-back 𝓤 H A W (B₁ κ) (ν ∷ κ) δ (gone-on t) l₅ 0) $ await ! tt $
-          use1 W (‵ (fat fullShare (T′.mir erased) l₅ 0 (T′.lowered (gone-on t))) ⊛ ‵ (B₁ κ .own (gone-on t) (T′.lowered (gone-on t) ∷ [])))
-          (lies-out (gone-on t) l₅) $ split ! $
+          use3 W (later (‵ (partAt (B₁ κ) fullShare (movedOn (t .held)) l₅ 0))) (ref-back 𝓤 H A W (B₁ κ) (ν ∷ κ) δ (movedOn (t .held)) l₅ 0) $ await ! tt $
+          use1 W (‵ (fat fullShare (T′.mir erased) l₅ 0 (T′.lowered (movedOn (t .held)))) ⊛ ‵ (B₁ κ .own (movedOn (t .held)) (T′.lowered (movedOn (t .held)) ∷ [])))
+          (lies-out (movedOn (t .held)) l₅) $ split ! $
           move ! (3 ∷ []) $ split ! $ move ! (0 ∷ 4 ∷ []) $ use2 W (‵ (flft κ q)) (W .lfts .lft-join κ q) $
           keep ! (4 ∷ 3 ∷ 0 ∷ 6 ∷ 7 ∷ 8 ∷ 9 ∷ 10 ∷ 11 ∷ 12 ∷ 13 ∷ 14 ∷ 15 ∷ 16 ∷ 17 ∷ 18 ∷ 19 ∷ 20 ∷ 21 ∷ 22 ∷ 2 ∷ 23 ∷ 24 ∷ 25 ∷ 26 ∷ 27 ∷ 28 ∷ 29 ∷ 30 ∷ 31 ∷ 32 ∷ 33 ∷ []) $
           rewrite ! 0 (λ (us : List Val). ‵ (I₁ κ .own d us)) (LL.tells E F d (w ∷ []) is) refl $
@@ -431,7 +419,7 @@ module _ {M : Type 1} (𝓤 : URA M) (H : Heap 𝓤) (A : Atoms 𝓤) (W : Given
         move ! (1 ∷ []) $ split ! $
         keep ! (2 ∷ 0 ∷ 3 ∷ 4 ∷ 5 ∷ 6 ∷ 7 ∷ 8 ∷ 9 ∷ 10 ∷ 11 ∷ 12 ∷ 13 ∷ 14 ∷ 15 ∷ 16 ∷ 17 ∷ 18 ∷ 19 ∷ 20 ∷ 21 ∷ 22 ∷ 23 ∷ 24 ∷ 25 ∷ 26 ∷ 27 ∷ 28 ∷ 29 ∷ 30 ∷ 31 ∷ []) $
         first ! $ blocks ! $ loops ! 𝓣 Fewer Fewer-wf (At l₀ l₁ l₂ l₃ l₄ l₅ l₆ l₇ l₈ l₉ l₁₀ l₁₁ l₁₂ l₁₃) (turns l₀ l₁ l₂ l₃ l₄ l₅ l₆ l₇ l₈ l₉ l₁₀ l₁₁ l₁₂ l₁₃)
-        (record { next = n; left = m; drawn = 0; few = omega arith })))))))))))))))))))
+        (record { held = made; drawn = 0; few = omega arith })))))))))))))))))))
 
 module _ {M : Type 1} (𝓤 : URA M) (H : Heap 𝓤) (A : Atoms 𝓤) (W : Given 𝓤 H A) (mem : Memory → SProp 𝓤) (run : Routine → Fun 𝓤) where
   self-walks : (𝓣 : Tables 𝓤 H) → Triple 𝓤 (𝓣 .C #area·cursor·text-cursor) (New 𝓤 H A mem run)
