@@ -47,38 +47,40 @@ fn print_draws(table: &[u8], next: usize, left: usize, more: usize) -> usize
     }
 }
 
-// The items of the text at a place of a table, and two draws more.
-fn print_text(table: &[u8], at: u32) {
-    let next = at as usize + 4;
-    let left = byte_at(table, at as usize) as usize;
-    let count = count_items(table, next, left);
-    io::write_all(STDOUT_FILENO, b"text ");
-    io::print_decimal(STDOUT_FILENO, count as u64);
-    io::write_all(STDOUT_FILENO, b"\n");
-    if count < 1000 {
-        print_draws(table, next, left, count + 1);
-    }
-}
-
-// The text of each track of a table.
-fn print_texts(table: &[u8]) {
+// Where the text of a track of an index stands.
+fn text_at(table: &[u8], i: u8) -> u32 {
     let head = table_head(table, 1, Lsn(0), TABLE_SECTORS);
     let chain = head.chain;
     let block = chain.ttxt;
-    let area = head.area;
-    let tracks = area.track_count;
-    let mut i: u16 = 0;
-    while i < tracks && i < 255 {
-        let offset = be16_at(table, block as usize + 8 + 2 * i as usize);
-        if block < 262144 {
-            print_text(table, block + offset as u32);
-        }
-        i += 1;
+    if 262144 < block {
+        return 0;
+    }
+    block + be16_at(table, block as usize + 8 + 2 * i as usize) as u32
+}
+
+// The number of items of a track's text, these items, and two draws more.
+fn print_text(table: &[u8], i: u8) {
+    let at = text_at(table, i) as usize;
+    let left = byte_at(table, at) as usize;
+    let count = count_items(table, at + 4, left);
+    io::write_all(STDOUT_FILENO, b"text ");
+    io::print_decimal(STDOUT_FILENO, count as u64);
+    io::write_all(STDOUT_FILENO, b"\n");
+    if count < 256 {
+        print_draws(table, at + 4, left, count + 1);
     }
 }
 
+// The table's tracks are eight.
 fn main() {
     let mut table = [0u8; TABLE_BYTES];
     io::read_full(STDIN_FILENO, &mut table);
-    print_texts(&table);
+    print_text(&table, 0);
+    print_text(&table, 1);
+    print_text(&table, 2);
+    print_text(&table, 3);
+    print_text(&table, 4);
+    print_text(&table, 5);
+    print_text(&table, 6);
+    print_text(&table, 7);
 }
