@@ -1,7 +1,7 @@
 -- A call in a walk: what is handed to the callee, and what is had after it, over a list of the arguments. It holds of a callee that asks nothing (`requires`) and whose contract is one fact.
 --     Arg          an argument: `made`, plain data, whose ownership is had for nothing;  `lent`, what is owned and goes;  `given`, a `&mut [T]`, whose last list the callee says
 --     had ps       what must be owned.        tokens κs qs     the lifetimes' tokens
---     Lasts, ends, Longs       the last lists, what says them, and that each is as long ps the list passed
+--     Lasts, ends, Longs       the last lists, what says them, and that each is as long as the list passed
 --     calls        the call: from [tokens; had] to [what the result owns; tokens; ends], with the result's relation, the contract's fact and `Longs` in hand
 -- Assumes `Given`.
 use mathlib.Core.Path.{_≡_, refl}
