@@ -1,8 +1,8 @@
 -- A call in a walk: what is handed to the callee, and what is had after it, over a list of the arguments. It holds of a callee that asks nothing (`requires`) and whose contract is one fact.
 --     Arg          an argument: `made`, plain data, whose ownership is had for nothing;  `lent`, what is owned and goes;  `given`, a `&mut [T]`, whose last list the callee says
 --     had ps       what must be owned.        tokens κs qs     the lifetimes' tokens
---     Lasts, ends, Longs       the last lists, what says them, and that each is as long ps the list passed
---     calls        the call: from [tokens; had] to [what the result owns; tokens; ends], with the result's relation, the contract's fact and `Longs` in hand
+--     Lasts, ends, Longs       the last lists, what says them, and that each is as long as the list passed
+--     Says         what the callee's contract says at the arguments.        calls        the call: from [tokens; had] to [what the result owns; tokens; ends], with the result's relation, the contract's fact and `Longs` in hand
 -- Assumes `Given`.
 use mathlib.Core.Path.{_≡_, refl}
 use Prim.Native.Nat.{ℕ, zero, suc, _<_, _^_}
@@ -140,12 +140,10 @@ module _ {M : Type 1} {𝓤 : URA M} {H : Heap 𝓤} {A : Atoms 𝓤} (W : Given
       (fm f vs post (λ v. aim 𝓤 H (after v)) (S Γ) (λ v. via 𝓤 _ (push 𝓤 H A (raw (post v)) Γ) (k v .prf))))))
       (W .laws .⇛-intro _)
 
-  module _ (R : RattleType) (P : Rel R) (shown : Shows 𝓤 H A R P) (n : ℕ) (κs : Lfts n) (qs : Shares n) (ps : List (Arg 𝓤 H A)) (Q : R .Denot → Lasts ps → SProp 𝓤) (F : R .Denot → Lasts ps → Type 0) (hears : (r : R .Denot) (ws : Lasts ps) → ent 𝓤 (Q r ws) (fact 𝓤 (F r ws))) where
+  -- what the contract of a callee that asks nothing says at the arguments ps: it entails the call
+  module _ (R : RattleType) (n : ℕ) (κs : Lfts n) (qs : Shares n) (ps : List (Arg 𝓤 H A)) (Q : R .Denot → Lasts ps → SProp 𝓤) where
     abbrev Owned : SProp 𝓤
     Owned = sep 𝓤 (toks 𝓤 A n κs qs) (sem 𝓤 H A (owns (rows ps) (values ps) (wordss ps)))
-
-    abbrev Pre : SProp 𝓤
-    Pre = sep 𝓤 Owned (emp 𝓤)
 
     abbrev Ensured : R .Denot → SProp 𝓤
     Ensured r = ex 𝓤 (λ (ws : Lasts ps). sep 𝓤 (sem 𝓤 H A (saids ps ws)) (Q r ws))
@@ -153,13 +151,17 @@ module _ {M : Type 1} {𝓤 : URA M} {H : Heap 𝓤} {A : Atoms 𝓤} (W : Given
     abbrev After : Val → SProp 𝓤
     After v = H .⇛ (ex 𝓤 (λ (r : R .Denot). sep 𝓤 (sep 𝓤 (toks 𝓤 A n κs qs) (sem 𝓤 H A (R .own r (v ∷ [])))) (Ensured r)))
 
-    asked : ent 𝓤 (S (tokens 𝓤 n κs qs ++ had ps)) Pre
+    abbrev pub Says : Calls 𝓤 H → Name → Type 1
+    Says C f = ent 𝓤 (sep 𝓤 Owned (emp 𝓤)) (C f (flat (rows ps) (wordss ps)) After)
+
+    asked : ent 𝓤 (S (tokens 𝓤 n κs qs ++ had ps)) (sep 𝓤 Owned (emp 𝓤))
     asked = via 𝓤 _ (⊢++ 𝓤 H A (tokens 𝓤 n κs qs) (had ps)) (via 𝓤 _ (mono∗ 𝓤 (alive n κs qs) (passed ps)) (via 𝓤 _ (emp∗ 𝓤 Owned) (comm∗ 𝓤 (emp 𝓤) Owned)))
 
+  module _ (R : RattleType) (P : Rel R) (shown : Shows 𝓤 H A R P) (n : ℕ) (κs : Lfts n) (qs : Shares n) (ps : List (Arg 𝓤 H A)) (Q : R .Denot → Lasts ps → SProp 𝓤) (F : R .Denot → Lasts ps → Type 0) (hears : (r : R .Denot) (ws : Lasts ps) → ent 𝓤 (Q r ws) (fact 𝓤 (F r ws))) where
     -- what is had once it has returned v
-    answered : (v : Val) {K : Type 0} (t : K) {Γ : List (Item 𝓤)} {G : Goal 𝓤 H} → Soaks G → ((r : R .Denot) (ws : Lasts ps) → P r (v ∷ []) → F r ws → Longs ps ws → Seq K W ((‵ (R .own r (v ∷ [])) ∷ (tokens 𝓤 n κs qs ++ ends ps ws)) ++ Γ) G) → Seq K W (raw (After v) ∷ Γ) G
+    answered : (v : Val) {K : Type 0} (t : K) {Γ : List (Item 𝓤)} {G : Goal 𝓤 H} → Soaks G → ((r : R .Denot) (ws : Lasts ps) → P r (v ∷ []) → F r ws → Longs ps ws → Seq K W ((‵ (R .own r (v ∷ [])) ∷ (tokens 𝓤 n κs qs ++ ends ps ws)) ++ Γ) G) → Seq K W (raw (After R n κs qs ps Q v) ∷ Γ) G
     answered v t {Γ} z k =
-        use1 W (later (some (λ (r : R .Denot). (raw (toks 𝓤 A n κs qs) ⊛ ‵ (R .own r (v ∷ []))) ⊛ raw (Ensured r)))) (id⊢ 𝓤 _) $ await t z $ pick t (λ r.
+        use1 W (later (some (λ (r : R .Denot). (raw (toks 𝓤 A n κs qs) ⊛ ‵ (R .own r (v ∷ []))) ⊛ raw (Ensured R n κs qs ps Q r)))) (id⊢ 𝓤 _) $ await t z $ pick t (λ r.
         split t $ move t (1 ∷ []) $ use1 W (some (λ (ws : Lasts ps). ‵ (saids ps ws) ⊛ raw (Q r ws))) (id⊢ 𝓤 _) $ pick t (λ ws.
         split t $ move t (1 ∷ []) $ use1 W (raw (fact 𝓤 (F r ws))) (hears r ws) $ heard t (F r ws) (λ f. use1 W (guarded (Longs ps ws) (raw (S (ends ps ws)))) (ended ps ws) $ learn t (λ longs.
         move t (1 ∷ []) $ split t $ move t (1 ∷ []) $ peeks t R P shown r (v ∷ []) (λ is.
@@ -169,15 +171,15 @@ module _ {M : Type 1} {𝓤 : URA M} {H : Heap 𝓤} {A : Atoms 𝓤} (W : Given
         joined r ws = via 𝓤 _ (monoR 𝓤 (sem 𝓤 H A (R .own r (v ∷ []))) (via 𝓤 _ (monoL 𝓤 (S (ends ps ws)) (each-alive n κs qs)) (++⊢ 𝓤 H A (tokens 𝓤 n κs qs) (ends ps ws)))) (push 𝓤 H A (‵ (R .own r (v ∷ []))) (tokens 𝓤 n κs qs ++ ends ps ws))
 
     pub calls-by : (Γ : List (Item 𝓤)) {K : Type 0} {E : Env 𝓤 H} {C : Calls 𝓤 H} {Λ : Loops 𝓤 H} {q : Post 𝓤 H} {f : Name} {xs : List Operand} {d : Place} {rest : Body} → K → FmC 𝓤 H (W .laws) C
-        → ent 𝓤 Pre (C f (flat (rows ps) (wordss ps)) After) → Opds K W ((tokens 𝓤 n κs qs ++ had ps) ++ Γ) E xs (flat (rows ps) (wordss ps))
+        → Says R n κs qs ps Q C f → Opds K W ((tokens 𝓤 n κs qs ++ had ps) ++ Γ) E xs (flat (rows ps) (wordss ps))
         → ((v : Val) (r : R .Denot) (ws : Lasts ps) → P r (v ∷ []) → F r ws → Longs ps ws → Seq K W ((‵ (R .own r (v ∷ [])) ∷ (tokens 𝓤 n κs qs ++ ends ps ws)) ++ Γ) (lands C Λ E d v rest q))
         → Seq K W ((tokens 𝓤 n κs qs ++ had ps) ++ Γ) (runs C Λ E (seq (call f xs d) rest) q)
     calls-by Γ {E = E} {C = C} {Λ = Λ} {q = q} {d = d} {rest = rest} t fm met os k =
-        record { prf = called (tokens 𝓤 n κs qs ++ had ps) Γ fm Pre After asked met os (λ v. lands C Λ E d v rest q) (λ v. answered v t tt (k v)) }
+        record { prf = called (tokens 𝓤 n κs qs ++ had ps) Γ fm (sep 𝓤 (Owned R n κs qs ps Q) (emp 𝓤)) (After R n κs qs ps Q) (asked R n κs qs ps Q) met os (λ v. lands C Λ E d v rest q) (λ v. answered v t tt (k v)) }
 
   module _ (R : RattleType) (P : Rel R) (shown : Shows 𝓤 H A R P) (n : ℕ) (κs : Lfts n) (qs : Shares n) (ps : List (Arg 𝓤 H A)) (F : R .Denot → Lasts ps → Type 0) where
     pub calls : (Γ : List (Item 𝓤)) {K : Type 0} {E : Env 𝓤 H} {C : Calls 𝓤 H} {Λ : Loops 𝓤 H} {q : Post 𝓤 H} {f : Name} {xs : List Operand} {d : Place} {rest : Body} → K → FmC 𝓤 H (W .laws) C
-        → ent 𝓤 (Pre R P shown n κs qs ps (λ r ws. fact 𝓤 (F r ws)) F (λ r ws. id⊢ 𝓤 _)) (C f (flat (rows ps) (wordss ps)) (After R P shown n κs qs ps (λ r ws. fact 𝓤 (F r ws)) F (λ r ws. id⊢ 𝓤 _)))
+        → Says R n κs qs ps (λ r ws. fact 𝓤 (F r ws)) C f
         → Opds K W ((tokens 𝓤 n κs qs ++ had ps) ++ Γ) E xs (flat (rows ps) (wordss ps))
         → ((v : Val) (r : R .Denot) (ws : Lasts ps) → P r (v ∷ []) → F r ws → Longs ps ws → Seq K W ((‵ (R .own r (v ∷ [])) ∷ (tokens 𝓤 n κs qs ++ ends ps ws)) ++ Γ) (lands C Λ E d v rest q))
         → Seq K W ((tokens 𝓤 n κs qs ++ had ps) ++ Γ) (runs C Λ E (seq (call f xs d) rest) q)

@@ -1,8 +1,9 @@
 -- `place_at` meets its contract: a walk of its MIR. The slice is looked into at the place, and `text_place` is asked for the element's; or the answer is 0. Assumes nothing.
 use contract.Running.{tablesOf}
 use lib.ListN.{List·getD-eq-default}
-use Rattle.walks.specs.Walk.{_≡_, refl, sym, _∙_, List, [], _∷_, ℕ, _<_, _^_, ltb→lt, nltb→le, length, getD, URA, Ty, named, imm, w32, w64, tyInt, tyRef, tyBool, tyPtr, Val, SProp, ent, emp, via, fst∗, Lft, Share, Memory, Routine, Heap, WpFn, Tables, Atoms, Fun, givenOf, tables, flat, Given, Sq, runs, atRet, _$_, !, by, move, drop, ap, lit<}
-use Rattle.walks.specs.Walk.{look, look-raw, lit, stop, hop, from, load, bin, of-opd, no-more, assigns, init, first, branches, skips, exec, returns, returns-within, WpFn-mono, fmOf, uint-makes, Is, shows, uint-lawful, uint-vals, uint-tells, u32, usize, RefT, sliceTy, Room, onEntry, Meets, tripleOf, entered, cited, walkOf, walked, walk-meets}
+use Rattle.walks.specs.Walk.{_≡_, refl, sym, _∙_, List, [], _∷_, ℕ, _<_, _^_, ltb→lt, nltb→le, length, getD, URA, Ty, named, imm, w32, w64, tyInt, tyRef, tyBool, tyPtr, Val, SProp, ent, emp, via, fst∗, Lft, Share, Memory, Routine, Heap, WpFn, Tables, Atoms, Fun, givenOf}
+use Rattle.walks.specs.Walk.{tables, flat, Given, Sq, runs, atRet, _$_, !, by, move, drop, ap, lit<, look, look-raw, lit, stop, hop, from, load, bin, of-opd, no-more, assigns, init, first, branches, skips, exec, returns, returns-within, WpFn-mono, fmOf, uint-makes, Is}
+use Rattle.walks.specs.Walk.{shows, uint-lawful, uint-vals, uint-tells, u32, usize, RefT, sliceTy, Room, onEntry, Meets, tripleOf, entered, cited, walkOf, walked, walk-meets}
 use Rattle.walks.specs.Locals.{Places, env, leaves}
 use Rattle.walks.specs.Call.{Arg, rows, values, wordss, calls, num, slice, of-struct}
 use Rattle.walks.specs.Element.{at-place, looks-at, looks-away}

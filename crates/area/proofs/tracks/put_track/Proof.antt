@@ -2,8 +2,9 @@
 use contract.Running.{tablesOf}
 use lib.ListN.{set, length-set}
 use lib.Seq.{set-out}
-use Rattle.walks.specs.Walk.{_≡_, refl, sym, List, [], _∷_, ℕ, _<_, _^_, ltb→lt, nltb→le, length, URA, Ty, named, mut, w64, tyInt, tyRef, tyBool, tyPtr, tyUnit, Val, vunit, SProp, ent, emp, via, fst∗, Lft, Share, Memory, Routine, Heap, WpFn, Tables, Atoms, Fun, givenOf, tables, flat, Given, Sq, runs, atRet, _$_, !, by, move}
-use Rattle.walks.specs.Walk.{look, lit, unit-lit, stop, hop, from, bin, of-opd, assigns, assigns-last, init, store-raw, first, branches, skips, exec, returns, WpFn-mono, Nothing, nothing-makes, Is, uint-vals, uint-tells, usize, RefT, sliceTy, Room, owned, onEntry, Meets, tripleOf, entered, walkOf, walked, walk-meets}
+use Rattle.walks.specs.Walk.{_≡_, refl, sym, List, [], _∷_, ℕ, _<_, _^_, ltb→lt, nltb→le, length, URA, Ty, named, mut, w64, tyInt, tyRef, tyBool, tyPtr, tyUnit, Val, vunit, SProp, ent, emp, via, fst∗, Lft, Share, Memory, Routine, Heap, WpFn, Tables, Atoms, Fun, givenOf}
+use Rattle.walks.specs.Walk.{tables, flat, Given, Sq, runs, atRet, _$_, !, by, move, look, lit, unit-lit, stop, hop, from, bin, of-opd, assigns, assigns-last, init, store-raw, first, branches, skips, exec, returns, WpFn-mono, Nothing, nothing-makes, Is, uint-vals}
+use Rattle.walks.specs.Walk.{uint-tells, usize, RefT, sliceTy, Room, owned, onEntry, Meets, tripleOf, entered, walkOf, walked, walk-meets}
 use Rattle.walks.specs.Lent.{renamed}
 use Rattle.walks.specs.Locals.{Places, env, leaves}
 use Rattle.walks.specs.Call.{Arg, given, rows, values, wordss, num, of-struct}
