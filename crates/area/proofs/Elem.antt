@@ -1,7 +1,7 @@
 -- The struct `Track` as the element of a slice: what a walk asks of it. Assumes nothing.
 --     R, ty, name          its type; its MIR type; that behind a reference, which is the bare name
 --     track, track-type    that it is an element;  its laws
---     times-fits           i times its size fits a usize
+--     size, times-fits     its size in bytes, as the MIR has it at `tracks[at]`;  i times that fits a usize
 use Prim.Native.Nat.{ℕ, _*_, _<_, _^_}
 use native.Mathlib.Omega.{arith}
 use mir.Syntax.{Ty}
@@ -34,5 +34,8 @@ track = element T.the-type T.Laws.the-laws T.Laws.the-copy
 abbrev pub track-type : Struct R ty val
 track-type = struct-laws T.the-type T.Laws.the-laws T.Laws.the-plain ty (λ v t. t .0) val (λ x. refl)
 
-pub times-fits : {n : ℕ} → Room R n → (i : ℕ) → i < n → i * 100 < 2 ^ 64
+abbrev pub size : ℕ
+size = 100
+
+pub times-fits : {n : ℕ} → Room R n → (i : ℕ) → i < n → i * size < 2 ^ 64
 times-fits room i h = omega (arith, room .1)

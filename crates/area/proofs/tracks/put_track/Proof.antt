@@ -13,7 +13,7 @@ use Rattle.walks.specs.Steps.{reads, part, repoints, slice-typed}
 use Rattle.walks.specs.Function.{Param, value, exclusive, stays, spells, tells, goes, entry, begins, AtEnd, finishes}
 use Rattle.area.specs.Track.{noTrack}
 use Rattle.area.specs.declared.track.Track.{Track}
-use Rattle.area.proofs.Elem.{R, ty, name, val, track, track-type, times-fits}
+use Rattle.area.proofs.Elem.{R, ty, name, size, val, track, track-type, times-fits}
 use Rattle.area.proofs.tracks.put_track as this
 use Rattle.area.proofs.tracks.put_track.Code as code
 use Rattle.area.proofs.tracks.put_track.Code.Mir as mir
@@ -42,7 +42,7 @@ module _ {M : Type 1} (𝓤 : URA M) (H : Heap 𝓤) (A : Atoms 𝓤) (W : Given
         first ! $ branches ! (reads ! 7 refl)
         (λ below. let l : i < length (x .now) = ltb→lt i (length (x .now)) below in
         assigns ! (bin ! (reads ! 4 refl) (lit ! tt) (record { fits = times-fits room i l })) (from ! (stop !)) (init ! 8 refl (tt, record { fits = times-fits room i l })) $
-        assigns ! (bin ! (part ! 3 0 refl refl refl) (reads ! 8 refl) tt) (from ! (stop !)) (init ! 9 refl (tt, tt)) $ repoints ! 9 (at-place 100 (x .ptr .1) i) refl $
+        assigns ! (bin ! (part ! 3 0 refl refl refl) (reads ! 8 refl) tt) (from ! (stop !)) (init ! 9 refl (tt, tt)) $ repoints ! 9 (at-place size (x .ptr .1) i) refl $
         -- element i is stored
         move ! (1 ∷ 0 ∷ []) $ opens-at R track κ q x i noTrack l ! tt (
         assigns-last ! (of-opd ! (reads ! 5 refl)) (from ! (hop ! (look ! 9 refl) (stop !))) (store-raw ! 0 refl (track-type .typed 𝓤 H A W t (val t) is)) $ exec ! (𝓣 .C) (𝓣 .Λ) (env locals bs) mir.t-4 (atRet (env locals bs) Post) $

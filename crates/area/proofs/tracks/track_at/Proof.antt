@@ -11,7 +11,7 @@ use Rattle.walks.specs.Steps.{reads, part, lands-at, repoints, slice-typed}
 use Rattle.walks.specs.Function.{Param, value, shared, stays, spells, tells, goes, entry, begins, AtEnd, finishes}
 use Rattle.area.specs.Track.{noTrack}
 use Rattle.area.specs.declared.track.Track.{Track}
-use Rattle.area.proofs.Elem.{R, ty, name, val, track, track-type, times-fits}
+use Rattle.area.proofs.Elem.{R, ty, name, size, val, track, track-type, times-fits}
 use Rattle.area.proofs.track.no_track as no-track
 use Rattle.area.proofs.tracks.track_at as this
 use Rattle.area.proofs.tracks.track_at.Code as code
@@ -41,7 +41,7 @@ module _ {M : Type 1} (𝓤 : URA M) (H : Heap 𝓤) (A : Atoms 𝓤) (W : Given
         first ! $ branches ! (reads ! 6 refl)
         (λ below. let l : i < length (x .now) = ltb→lt i (length (x .now)) below in let t : Track = getD (x .now) i noTrack in
         assigns ! (bin ! (reads ! 4 refl) (lit ! tt) (record { fits = times-fits room i l })) (from ! (stop !)) (init ! 7 refl (tt, record { fits = times-fits room i l })) $
-        assigns ! (bin ! (part ! 3 0 refl refl refl) (reads ! 7 refl) tt) (from ! (stop !)) (init ! 8 refl (tt, tt)) $ repoints ! 8 (at-place 100 (x .ptr .1) i) refl $
+        assigns ! (bin ! (part ! 3 0 refl refl refl) (reads ! 7 refl) tt) (from ! (stop !)) (init ! 8 refl (tt, tt)) $ repoints ! 8 (at-place size (x .ptr .1) i) refl $
         -- element i is looked at
         move ! (1 ∷ 0 ∷ []) $ looks-at R track κ q x i noTrack l ! tt (λ q′ is.
         assigns ! (of-opd ! (load ! (from ! (hop ! (look ! 8 refl) (stop !))) (look-raw ! 0 refl))) (from ! (stop !)) (init ! 9 refl (track-type .typed 𝓤 H A W t (val t) is)) $
