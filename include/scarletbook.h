@@ -362,7 +362,7 @@ typedef struct scarletbook_area {
     uint32_t audio_start_lsn;
     uint32_t audio_end_lsn; /* inclusive */
     uint8_t text_channel_count;
-    uint8_t locale_count;                                 /* how many locales are listed */
+    uint8_t locale_count;                                /* how many locales are listed */
     scarletbook_locale locales[SCARLETBOOK_MAX_LOCALES]; /* these, and zero past them */
     uint8_t text_charset;
     scarletbook_text_place text[SCARLETBOOK_AREA_TEXTS];
