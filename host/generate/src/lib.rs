@@ -1,11 +1,12 @@
 //! A deterministic generator of images, of discs, of area tables, of texts and of questions about
-//! them: the same seed gives the same cases everywhere.
+//! them: the same seed gives the same cases everywhere. `plain` walks over a table by the document.
 
 pub mod disc;
 pub mod header;
 pub mod image;
 pub mod layout;
 pub mod noise;
+pub mod plain;
 pub mod question;
 mod rng;
 pub mod table;

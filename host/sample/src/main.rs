@@ -1,11 +1,12 @@
 //! Stores tables and discs, and what the customer's Rust answers to them, for the programs `replay`,
-//! `stored_tables` and `stored_discs`, which need no Rust. `--check` asks the Rust again about what
-//! is stored.
+//! `stored_tables` and `stored_discs`, which need no Rust; and a table with its items by the plain
+//! walk, for `draws`. `--check` asks the Rust again about what is stored, and walks again.
 //!
-//! Exit status: 0 all is written, or is what the Rust answers; 1 the Rust answers something else;
-//! 2 bad usage, or a file that cannot be read or written.
+//! Exit status: 0 all is written, or is what must be stored; 1 something else is stored; 2 bad
+//! usage, a file that cannot be read or written, or a walk whose items are not the Rust's texts.
 
 mod disc;
+mod draws;
 mod listing;
 mod named;
 mod runs;
@@ -32,6 +33,9 @@ const DISCS: &str = "stored_discs/stdin";
 const NAMED_ANSWERS: &str = "stored_tables/stdout";
 const ANSWERS: &str = "replay/stdout";
 const DISC_ANSWERS: &str = "stored_discs/stdout";
+/// The table whose items are drawn, and the draws.
+const DRAWN: &str = "draws/stdin";
+const DRAWS: &str = "draws/stdout";
 
 /// Tables at random that are stored in few bytes.
 fn random() -> impl Iterator<Item = Vec<u8>> {
@@ -65,7 +69,7 @@ fn no_list() -> Error {
     Error::new(ErrorKind::InvalidData, "no list of tables or discs")
 }
 
-/// The files of the answers, and what the Rust answers to the tables and discs that are stored.
+/// What the Rust answers to the tables and discs that are stored, each with its file.
 fn answers(crates: &Path) -> Result<[(&'static str, String); 3]> {
     let tables = runs::tables(&fs::read(crates.join(TABLES))?).ok_or_else(no_list)?;
     let numbered = tables.iter().enumerate();
@@ -81,6 +85,20 @@ fn answers(crates: &Path) -> Result<[(&'static str, String); 3]> {
     Ok([(ANSWERS, answers.collect()), (NAMED_ANSWERS, named_answers), (DISC_ANSWERS, disc_answers)])
 }
 
+/// The table whose items are drawn, and the draws, each with its file.
+fn table_and_draws() -> Result<[(&'static str, Vec<u8>); 2]> {
+    let table = named::items();
+    let other = || Error::new(ErrorKind::InvalidData, "the walk's items are not the Rust's texts");
+    let draws = draws::lines(&table).ok_or_else(other)?;
+    Ok([(DRAWN, table), (DRAWS, draws)])
+}
+
+/// The files that `--check` looks at, and what must be stored there.
+fn checked(crates: &Path) -> Result<impl Iterator<Item = (&'static str, Vec<u8>)>> {
+    let answers = answers(crates)?.map(|(file, answers)| (file, answers.into_bytes()));
+    Ok(answers.into_iter().chain(table_and_draws()?))
+}
+
 /// A table's name, on a line, and its listing.
 fn answer(name: &str, table: &[u8]) -> String {
     format!("{name}\n{}", listing::listing(table))
@@ -89,17 +107,18 @@ fn answer(name: &str, table: &[u8]) -> String {
 fn write(crates: &Path) -> Result<u8> {
     write_tables(crates)?;
     write_discs(crates)?;
-    for (file, answers) in answers(crates)? {
-        fs::write(crates.join(file), answers)?;
+    fs::create_dir_all(crates.join("draws"))?;
+    for (file, bytes) in checked(crates)? {
+        fs::write(crates.join(file), bytes)?;
     }
     Ok(0)
 }
 
 fn check(crates: &Path) -> Result<u8> {
     let mut status = 0;
-    for (file, answers) in answers(crates)? {
-        if fs::read(crates.join(file))? != answers.as_bytes() {
-            println!("sample: {file} is not what the Rust answers");
+    for (file, bytes) in checked(crates)? {
+        if fs::read(crates.join(file))? != bytes {
+            println!("sample: {file} is not what must be stored");
             status = 1;
         }
     }
