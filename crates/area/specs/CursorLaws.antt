@@ -1,19 +1,25 @@
 -- Laws of the text cursor: drawn to its end it gives the walk's items, all of them, and then the end; each with its string; and what a
 -- track keeps is what it keeps of the items drawn. Assumes nothing.
-use Prim.Native.Nat.{ℕ, zero, suc, _≤_, _<_}
+use Prim.Native.Nat.{ℕ, zero, suc, min, _≤_, _<_}
 use mathlib.Core.Bool.{Bool, true, false, cond}
 use mathlib.Core.List.{List, [], _∷_}
 use mathlib.Core.Path.{_≡_, refl, sym, ap, subst, _∙_}
 use native.Mathlib.Omega.{arith}
-use denote.Ref.{RefT, now}
+use denote.Ref.{RefT, now, ptr}
 use lib.ListN.{length}
-use Rattle.sectors.specs.Fill.{part}
+use Rattle.sectors.specs.Fill.{part, startAt}
 use Rattle.text.specs.String.{stringAt}
 use Rattle.area.specs.Items.{Item, itemsFrom, itemOf}
 use Rattle.area.specs.ItemLaws.{items-none, items-draw, draw-fewer, draw-stays, draw-string}
 use Rattle.area.specs.TrackText.{noItems, keepAll, itemsKept}
 use Rattle.area.specs.Cursor.{drawOf, movedOn, drawnBy, movedBy}
 use Rattle.area.specs.declared.cursor.TextCursor.{TextCursor}
+use Rattle.area.specs.declared.cursor.TextItem.{TextItem}
+
+-- what `draw` says of its item d, and of the cursor c that it leaves of h
+abbrev pub Drawn : TextCursor → TextItem → TextCursor → Type 0
+Drawn h d c = (d .found ≡ drawOf h .found) × (d .kind ≡ drawOf h .kind) × (now (d .text) ≡ part (drawOf h .place) (drawOf h .len) (now (h .table)))
+    × (ptr (d .text) ≡ startAt (ptr (h .table)) (min (drawOf h .place) (length (now (h .table))))) × (c ≡ movedOn h)
 
 -- the walk's items from where a cursor stands
 abbrev itemsOf : TextCursor → List Item

@@ -1,4 +1,3 @@
 pub mod Demanded
-pub mod Logic
 pub mod LocalArray
 pub mod TrackList

@@ -9,3 +9,4 @@ pub mod Walk
 pub mod Handing
 pub mod Statement
 pub mod Forward
+pub mod Held
