@@ -1,6 +1,6 @@
 -- "Either signature serves either slot.": of two tables that differ in their signatures alone, each one of the two, both are skipped, by the same
 -- warning, or neither; and both give the same record but for the signature's number and the origin, the same tracks, and the same warnings but for
--- the slot, in whichever slot. What is read before byte 8 is the signature, and that a text begins there: no letter of either is zero.
+-- the slot, in whichever slot. Nothing but the signature is read before byte 8, and that a text begins there: no letter of either is zero.
 -- Assumes nothing.
 use Prim.Native.Nat.{ℕ, zero, suc, _+_, _*_, _≤_, _<_, min}
 use native.Mathlib.Nat.{zero-add}
@@ -311,8 +311,9 @@ module _ (s t : List ℕ) (same : SameBehind s t) where
   locales-same count =
       tabulate-ext maxLocales (localeOr s localesOffset count) (localeOr t localesOffset count) (λ k h. rw (locale (localesOffset + 4 * k) (omega arith)))
 
-  -- ---- either signature
+  -- ---- "Either signature serves either slot."
   module _ (own : kindOf s ≢ 0) (other : kindOf t ≢ 0) where
+    -- both are skipped, by the same warning, or neither
     pub either-skips : skipOf s ≡ skipOf t
     unfolding skipOf skipBy isMalformed lsnAt
     either-skips =
@@ -391,14 +392,17 @@ module _ (s t : List ℕ) (same : SameBehind s t) where
           go true = kept
           go false = skipped
 
+      -- the record is the same but for the signature's number and the origin
       pub either-area : bareArea (areaGiven (areaOf s slot lsn sectors)) ≡ bareArea (areaGiven (areaOf t slot′ lsn′ sectors′))
       unfolding areaGiven withAddress yieldOf
       either-area = both-ways (λ (x : Table). bareArea (areaGiven x)) bare-record refl
 
+      -- the tracks are the same
       pub either-tracks : tracksGiven (areaOf s slot lsn sectors) ≡ tracksGiven (areaOf t slot′ lsn′ sectors′)
       unfolding tracksGiven withAddress yieldOf
       either-tracks = both-ways tracksGiven (ap tracksOf (reads slot sectors slot′ sectors′)) refl
 
+      -- the warnings are the same but for the slot
       pub either-warnings : map bareWarning (warningsOf (areaOf s slot lsn sectors)) ≡ map bareWarning (warningsOf (areaOf t slot′ lsn′ sectors′))
       unfolding warningsOf withAddress yieldOf bareWarning ofSlot
       either-warnings = both-ways (λ (x : Table). map bareWarning (warningsOf x)) bare-warnings refl
