@@ -146,7 +146,8 @@ module _ {M : Type 1} (𝓤 : URA M) (H : Heap 𝓤) (A : Atoms 𝓤) (W : Given
           assigns ! (bin ! (reads ! 9 refl) (reads ! 7 refl) tt) (from ! (stop !)) (store ! 13 refl (tt, tt)) $ first ! $ branches ! (reads ! 13 refl)
           -- all draws are made
           (λ last. let fits : t .drawn < 2 ^ 64 = let f = t .few in omega arith in
-          assigns ! (of-opd ! (reads ! 9 refl)) (from ! (stop !)) (init ! 3 refl (tt, record { fits = fits })) $ returns-within ! Post refl (look ! 3 refl) $ leaves ! 3 refl $ drop ! $ by ! (exits (t .drawn) (eqb→eq _ _ last) fits))
+          assigns ! (of-opd ! (reads ! 9 refl)) (from ! (stop !)) (init ! 3 refl (tt, record { fits = fits })) $ returns-within ! Post refl (look ! 3 refl) $ leaves ! 3 refl $ drop ! $
+          by {Γ = ‵ (flft κ q) ∷ ‵ (Shared u8 κ s) ∷ []} ! (exits (t .drawn) (eqb→eq _ _ last) fits))
           -- one draw more
           (λ more. let below = still-below (t .drawn) k (t .few) more in let fits : t .drawn + 1 < 2 ^ 64 = omega arith in
           skips ! $ exec ! (𝓣 .C) (𝓣 .Λ) (env locals bs) one-more (anyQ (Turned t)) $ assigns-last ! (bin ! (reads ! 9 refl) (lit ! tt) (record { fits = fits })) (from ! (stop !)) (store ! 9 refl (tt, record { fits = fits })) $
