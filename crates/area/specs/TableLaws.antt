@@ -29,6 +29,7 @@ use Rattle.area.specs.declared.chain.Chain.{Chain}
 use Rattle.area.specs.declared.table.TableHead.{TableHead}
 use Rattle.area.specs.declared.track.Track.{Track}
 use Rattle.area.specs.declared.track.TrackRead.{TrackRead}
+use Rattle.area.specs.declared.warning.Warning.{Warning}
 
 when-few : {A : Type 0} (t : Bool) (x : A) → length (whenTrue t x) ≤ 1
 unfolding whenTrue
@@ -317,6 +318,16 @@ module _ (table : List ℕ) (slot sectors : ℕ) where
       → tableOf table slot sectors ≡ yields (areaGiven (tableOf table slot sectors)) (tracksGiven (tableOf table slot sectors)) (warningsOf (tableOf table slot sectors))
   unfolding areaGiven tracksGiven warningsOf yieldOf tableOf
   table-yields kept = simp (eq-eqb (skipOf table) 0 kept)
+
+-- what a table that is not skipped gives
+module _ (area : Area) (tracks : List Track) (warnings : List Warning) where
+  pub yields-area : areaGiven (yields area tracks warnings) ≡ area
+  unfolding areaGiven
+  yields-area = refl
+
+  pub yields-tracks : tracksGiven (yields area tracks warnings) ≡ tracks
+  unfolding tracksGiven
+  yields-tracks = refl
 
 -- the record of no area
 pub no-area-absent : noArea .present ≡ 0

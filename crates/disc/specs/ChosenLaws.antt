@@ -2,7 +2,7 @@
 use Prim.Native.Nat.{ℕ}
 use native.Mathlib.Decide.{ℕ-discrete}
 use mathlib.Core.Bool.{Bool, true, false, not, and-eq-true-iff, true≢false}
-use mathlib.Core.List.{List}
+use mathlib.Core.List.{List, map}
 use mathlib.Core.Logic.{_≢_, _↔_}
 use mathlib.Core.Option.{Option, none, some}
 use mathlib.Core.Path.{_≡_, refl, sym, ap, _∙_}
@@ -13,12 +13,12 @@ use Rattle.sectors.specs.Options.{onlyIf}
 use Rattle.sectors.specs.Source.{Source, runOf}
 use Rattle.area.specs.Area.{addressed, noArea, kindOf}
 use Rattle.area.specs.Limits.{maxAreaTocSectors}
-use Rattle.area.specs.ServeLaws.{SameBehind, either-skips, either-tracks}
+use Rattle.area.specs.ServeLaws.{SameBehind, bareArea, bareWarning, either-skips, either-area, either-tracks, either-warnings}
 use Rattle.area.specs.Skip.{skipOf}
 use Rattle.area.specs.Table as Area
-use Rattle.area.specs.TableLaws.{head-skips, present-given, address-tracks, addressed-present, area-of, address-area, address-no-area, area-yields}
+use Rattle.area.specs.TableLaws.{head-skips, present-given, address-tracks, addressed-present, area-of, address-area, address-no-area, area-yields, yields-area, yields-tracks}
 use Rattle.disc.specs.Slot.{Slot, slotNumber}
-use Rattle.disc.specs.Copies.{isUsed, isTooLarge, isServed, hasSecond, firstCopy, secondCopy, Copy, chosenOf, chosen, tableIn, hasArea, areaIn, tracksIn}
+use Rattle.disc.specs.Copies.{isUsed, isTooLarge, isServed, hasSecond, firstCopy, secondCopy, Copy, chosenOf, chosen, tableIn, hasArea, areaIn, tracksIn, warningsIn}
 use Rattle.disc.specs.CopyLaws.{served-few}
 use Rattle.disc.specs.Outcome.{Yielded, isPresent}
 use Rattle.disc.specs.Demand3.{Place, Served, firstPlace, secondPlace, HasSecond, Names, the-first, the-second, yieldedBy, areaFrom}
@@ -217,18 +217,20 @@ area-some slot (some c) e q = go (ℕ-discrete (skipOf (c .bytes)) 0)
     go (yes kept) = no-some q (kept-is slot c kept)
     go (no skipped) = true≢false (sym e ∙ skipped-has slot c skipped)
 
--- the tracks of what the rules give
-area-tracks : (slot : Slot) (place : Place) (bytes : List ℕ) (x : Yielded) → areaFrom slot place bytes ≡ some x
-    → x .tracks ≡ Area.tracksGiven (Area.tableOf bytes (slotNumber slot) (place .sectors))
-unfolding areaFrom yieldedBy
-area-tracks slot place bytes x e = go (ℕ-discrete (skipOf bytes) 0)
-  where
-    go : Dec (skipOf bytes ≡ 0) → x .tracks ≡ Area.tracksGiven (Area.tableOf bytes (slotNumber slot) (place .sectors))
-    go (yes kept) = ap (λ (y : Yielded). y .tracks) (sym (some-eq (rw (area-yields bytes (slotNumber slot) (place .lsn) (place .sectors) kept) at e)))
-    go (no skipped) = absurd (no-some refl (rw (head-skips bytes (slotNumber slot) (place .lsn) (place .sectors) skipped) at e))
+-- what the rules give of a copy is what its table gives
+given-area : (bytes : List ℕ) (t : Area.Table) (x : Yielded) → yieldedBy bytes t ≡ some x → x .area ≡ Area.areaGiven t
+unfolding yieldedBy
+given-area bytes (Area.skips warning) x e = absurd (no-some refl e)
+given-area bytes (Area.yields area tracks warnings) x e = ap (λ (y : Yielded). y .area) (sym (some-eq e)) ∙ sym (yields-area area tracks warnings)
+
+given-tracks : (bytes : List ℕ) (t : Area.Table) (x : Yielded) → yieldedBy bytes t ≡ some x → x .tracks ≡ Area.tracksGiven t
+unfolding yieldedBy
+given-tracks bytes (Area.skips warning) x e = absurd (no-some refl e)
+given-tracks bytes (Area.yields area tracks warnings) x e = ap (λ (y : Yielded). y .tracks) (sym (some-eq e)) ∙ sym (yields-tracks area tracks warnings)
 
 -- ---- "Either signature serves either slot.": of two copies that differ in their signatures alone, each one of the two, the rules give an area
--- for both or for neither, with the same tracks, in whichever slot each is
+-- for both or for neither, with the same record but for the signature's number and the origin, and the same tracks; and both are warned of the
+-- same, but for the slot, in whichever slot each is
 module _ (a b : List ℕ) (same : SameBehind a b) (own : kindOf a ≢ 0) (other : kindOf b ≢ 0) (slot slot′ : Slot) (place place′ : Place) where
   pub either-serves : (areaFrom slot place a ≡ none) ↔ (areaFrom slot′ place′ b ≡ none)
   unfolding areaFrom yieldedBy
@@ -248,8 +250,22 @@ module _ (a b : List ℕ) (same : SameBehind a b) (own : kindOf a ≢ 0) (other 
           )
           (λ e. refl, λ e. refl)
 
-  pub either-yields : (x y : Yielded) → areaFrom slot place a ≡ some x → areaFrom slot′ place′ b ≡ some y → x .tracks ≡ y .tracks
+  pub either-yields : (x y : Yielded) → areaFrom slot place a ≡ some x → areaFrom slot′ place′ b ≡ some y
+      → (bareArea (x .area) ≡ bareArea (y .area)) × (x .tracks ≡ y .tracks)
+  unfolding areaFrom
   either-yields x y e f =
-      area-tracks slot place a x e
-      ∙ either-tracks a b same own other (slotNumber slot) (place .sectors) (slotNumber slot′) (place′ .sectors)
-      ∙ sym (area-tracks slot′ place′ b y f)
+      let own-table = Area.areaOf a (slotNumber slot) (place .lsn) (place .sectors) in
+      let other-table = Area.areaOf b (slotNumber slot′) (place′ .lsn) (place′ .sectors) in (
+        ap bareArea (given-area a own-table x e)
+            ∙ either-area a b same own other (slotNumber slot) (place .lsn) (place .sectors) (slotNumber slot′) (place′ .lsn) (place′ .sectors)
+            ∙ ap bareArea (sym (given-area b other-table y f)),
+        given-tracks a own-table x e
+            ∙ either-tracks a b same own other (slotNumber slot) (place .lsn) (place .sectors) (slotNumber slot′) (place′ .lsn) (place′ .sectors)
+            ∙ sym (given-tracks b other-table y f),
+      )
+
+  pub either-warned : map bareWarning (warningsIn (tableIn slot (some (record { lsn = place .lsn; sectors = place .sectors; bytes = a }))))
+      ≡ map bareWarning (warningsIn (tableIn slot′ (some (record { lsn = place′ .lsn; sectors = place′ .sectors; bytes = b }))))
+  unfolding tableIn warningsIn
+  either-warned =
+      either-warnings a b same own other (slotNumber slot) (place .lsn) (place .sectors) (slotNumber slot′) (place′ .lsn) (place′ .sectors)
