@@ -368,15 +368,21 @@ module _ (format : ℕ) (image : List ℕ) (memory : Memory) where
         ap (λ (o : Outcome). part masterRegion masterBytes (o .memory .work)) is-reading
         ∙ master-held source (image-sized format image) table (memory .work) table-long enough
 
+    manufacturer-of : readDisc format image memory .answer .master .manufacturer ≡ cond (hasManufacturer table) 1 0
+    unfolding manufacturerFlag masterOf
+    manufacturer-of = ap (λ (o : Outcome). o .answer .master .manufacturer) is-reading ∙ ap (λ (m : MasterToc). m .manufacturer) (master-back source table format memory)
+
+    manufacturer-says : (hasManufacturer table ≡ true) ↔ (part (placeOf format 519) 8 image ≡ manufacturerSignature)
+    unfolding hasManufacturer
+    manufacturer-says = signature-says format image not-truncated 9 manufacturerSignature (omega arith) refl
+
     -- "The manufacturer is a flag,": 1 where LSN 519, sector 9 of the master table, begins `SACD_Man`, and only there
     pub manufacturer-flagged : (readDisc format image memory .answer .master .manufacturer ≡ 1) ↔ (part (placeOf format 519) 8 image ≡ manufacturerSignature)
-    unfolding hasManufacturer manufacturerFlag masterOf
-    manufacturer-flagged =
-        rw manufacturer-of
-        (comes-here (hasManufacturer table) (signature-says format image not-truncated 9 manufacturerSignature (omega arith) refl) 1 0 (omega arith))
-      where
-        manufacturer-of : readDisc format image memory .answer .master .manufacturer ≡ cond (hasManufacturer table) 1 0
-        manufacturer-of = ap (λ (o : Outcome). o .answer .master .manufacturer) is-reading ∙ ap (λ (m : MasterToc). m .manufacturer) (master-back source table format memory)
+    manufacturer-flagged = rw manufacturer-of (comes-here (hasManufacturer table) manufacturer-says 1 0 (omega arith))
+
+    -- .. and 0 elsewhere
+    pub manufacturer-unflagged : part (placeOf format 519) 8 image ≢ manufacturerSignature → readDisc format image memory .answer .master .manufacturer ≡ 0
+    manufacturer-unflagged other-bytes = rw (manufacturer-of, test-false (hasManufacturer table) manufacturer-says other-bytes)
 
     -- "its 2,040 bytes standing in the master region.": those behind the signature
     pub manufacturer-stands : part (masterRegion + 9 * sectorSize + 8) 2040 (readDisc format image memory .memory .work) ≡ part (placeOf format 519 + 8) 2040 image
