@@ -2,4 +2,4 @@ pub mod Cards
 pub mod CardLaws
 pub mod Example
 pub mod ExampleLaws
-pub mod LoneCards
+pub mod LoneOrder
