@@ -12,7 +12,7 @@ module _ {A : Type 0} where
   unfoldable pub fill : ℕ → List A → List A → List A
   fill at new old = take at old ++ (new ++ drop (at + length new) old)
 
-  -- "what does not fit is not copied": `old`, filled from `at` on with as many elements of `new` as fit
+  -- what does not fit is not copied: `old`, filled from `at` on with as many elements of `new` as fit
   unfoldable pub copyInto : ℕ → List A → List A → List A
   copyInto at new old = fill at (take (length old - at) new) old
 
