@@ -13,7 +13,7 @@ ghost use Rattle.area.specs.Timecode.{frameNumber};
 ghost use Rattle.disc.specs.Detect.{detected};
 ghost use Rattle.disc.specs.Disc.{readDisc};
 ghost use Rattle.disc.specs.TextDecode.{discTextIn, areaTextOn, trackTextAt};
-ghost use Rattle.sectors.specs.Audit.{SoundIn, auditOf};
+ghost use Rattle.sectors.specs.Audit.{Means, soundVerdict, blankVerdict, unsoundVerdict, auditOf};
 ghost use Rattle.sectors.specs.Fnv.{digestOf, fingerprintOf};
 ghost use Rattle.sectors.specs.Number.{beAt};
 ghost use Rattle.sectors.specs.Run.{readRefusal, readInto, comparisonOf};
@@ -141,7 +141,7 @@ pub extern "C" fn scarletbook_fingerprint(format: u32, image: &[u8], lsn: Lsn) -
 #[no_mangle]
 pub extern "C" fn scarletbook_audit(format: u32, image: &[u8], lsn: Lsn) -> AuditAnswer
     ensures answer { λ r. ⌜ r ≡ auditOf format (now (image .entry)) (lsn .0) ⌝ }
-    ensures decides { λ r. ⌜ (r .sound ≡ 1 → SoundIn format (now (image .entry)) (lsn .0)) × (SoundIn format (now (image .entry)) (lsn .0) → r .sound ≡ 1) ⌝ }
+    ensures means { λ r. ⌜ Means soundVerdict blankVerdict unsoundVerdict format (now (image .entry)) (lsn .0) (r .verdict) ⌝ }
 {
     let answer = sectors::header::audit(format, image, lsn);
     sectors::header::audit_answer(answer)

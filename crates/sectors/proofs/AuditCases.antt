@@ -1,55 +1,51 @@
--- The answers of the header audit: the tests by which the program comes to one give its number, and say whether the header is
--- sound. Assumes nothing.
-use mathlib.Core.Path.{_≡_, refl, sym, ap, _∙_}
-use mathlib.Core.Bool.{Bool, true, false, not, true≢false}
+-- The answers of the header audit: the tests by which the program comes to one give its number, and an answer with that number means what the
+-- contract says. Assumes nothing.
+use mathlib.Core.Path.{_≡_, sym, ap, _∙_}
+use mathlib.Core.Bool.{Bool, true, false, not, and-false}
 use mathlib.Core.List.{List}
 use Prim.Native.Nat.{ℕ, _+_, _*_, _≤_}
 use native.Mathlib.Nat.{add-zero}
 use native.Mathlib.Omega.{arith}
-use lib.ListN.{length}
-use borrow.Author.Tests.{leb-true, ne-eqb, not-true, not-false}
+use lib.ListN.{getD, length}
+use mir.Syntax.{w8}
+use mir.Val.{Fits}
+use borrow.Author.Tests.{ne-eqb, not-true, not-false}
 use Rattle.sectors.specs.Fill.{part}
 use Rattle.sectors.specs.FillLaws.{part-length}
 use Rattle.sectors.specs.Format.{foreign, layoutOf, storedSize}
 use Rattle.sectors.specs.Sector.{readable}
 use Rattle.sectors.specs.SectorLaws.{stored-inside}
-use Rattle.sectors.specs.Header.{Sound, isSound}
-use Rattle.sectors.specs.Audit.{SoundIn, answerOf, auditOf, headerFormat, headerSize, headerAt}
+use Rattle.sectors.specs.Header.{isMultiple, isBlank, isSound}
+use Rattle.sectors.specs.Audit.{Means, answerOf, verdictOf, auditOf, headerFormat, headerSize, headerAt}
+use Rattle.sectors.specs.AuditLaws.{result-means}
 use Rattle.sectors.specs.declared.header.AuditResult.{AuditResult}
 use Rattle.sectors.specs.declared.header.AuditResult.the-variants as audit
 
 module _ (format : ℕ) (image : List ℕ) (lsn : ℕ) where
-  -- what the audit's contract says of an answer
-  abbrev pub Right : AuditResult → Type 0
-  Right r =
-      (answerOf r ≡ auditOf format image lsn)
-      × ((r ≡ audit.Sound → SoundIn format image lsn) × (SoundIn format image lsn → r ≡ audit.Sound))
+  abbrev Answers : AuditResult → Type 0
+  Answers r = answerOf r ≡ auditOf format image lsn
 
-  not-sound : (r : AuditResult) → answerOf r .sound ≡ 0 → answerOf r ≡ auditOf format image lsn → (SoundIn format image lsn → ⊥) → Right r
-  unfolding answerOf
-  not-sound r none e never = (
-    e,
-    ((λ q. absurd (omega (arith, none, ap (λ (r : AuditResult). answerOf r .sound) q))), (λ s. absurd (never s))),
-  )
+  -- what the audit's contract says of an answer
+  pub right : ((i : ℕ) → Fits w8 (getD image i 0)) → (r : AuditResult) → Answers r
+      → Answers r × Means audit.Sound audit.Blank audit.Unsound format image lsn r
+  right bytes r e = (e, result-means format image lsn (λ i. omega (arith, bytes i)) r e)
 
   module _ {test : Bool} (known : test ≡ foreign format) where
-    pub foreign-right : test ≡ true → Right audit.ForeignFormat
-    unfolding auditOf answerOf foreign
-    foreign-right e = not-sound audit.ForeignFormat refl (rw (← known, e)) (λ s. omega (arith, leb-true 3 format (sym known ∙ e), s .has-header))
-
-    pub no-header-right : test ≡ false → (format ≡ headerFormat → ⊥) → Right audit.NoHeader
+    pub foreign-answer : test ≡ true → Answers audit.ForeignFormat
     unfolding auditOf answerOf
-    no-header-right e other = not-sound audit.NoHeader refl (rw (← known, e, ne-eqb format headerFormat other)) (λ s. other (s .has-header))
+    foreign-answer e = rw (← known, e)
+
+    pub no-header-answer : test ≡ false → (format ≡ headerFormat → ⊥) → Answers audit.NoHeader
+    unfolding auditOf answerOf
+    no-header-answer e other = rw (← known, e, ne-eqb format headerFormat other)
 
   module _ (two : format ≡ headerFormat) {there : Bool} (known : there ≡ readable format (length image) lsn 1) where
     there-in-two : there ≡ readable headerFormat (length image) lsn 1
     there-in-two = rw two at known
 
-    pub missing-right : not there ≡ true → Right audit.NoSuchEntry
+    pub missing-answer : not there ≡ true → Answers audit.NoSuchEntry
     unfolding auditOf answerOf foreign
-    missing-right e =
-        let missing = sym there-in-two ∙ not-true there e in
-        not-sound audit.NoSuchEntry refl (rw (two, missing)) (λ s. true≢false (sym (s .is-there) ∙ missing))
+    missing-answer e = rw (two, ← there-in-two, not-true there e)
 
     -- the header that the program finds
     module _ (found : not there ≡ false) where
@@ -67,19 +63,20 @@ module _ (format : ℕ) (image : List ℕ) (lsn : ℕ) where
         unfolding headerAt
         six-is = is-part ∙ (rw (two, add-zero))
 
-        is-there : readable headerFormat (length image) lsn 1 ≡ true
-        is-there = sym there-in-two ∙ not-false there found
+        verdict-answer : (r : AuditResult) → answerOf r ≡ record { refusal = 0; verdict = verdictOf six } → Answers r
+        unfolding auditOf foreign
+        verdict-answer r e = e ∙ (rw (two, ← there-in-two, not-false there found, ← six-is))
 
-        module _ {test : Bool} (is-test : test ≡ isSound six) (decides : (test ≡ true → Sound six) × (Sound six → test ≡ true)) where
-          pub sound-right : test ≡ true → Right audit.Sound
-          unfolding auditOf answerOf foreign
-          sound-right e = (
-            rw (two, is-there, ← six-is, ← is-test, e),
-            ((λ q. record { has-header = two; is-there = is-there; is-sound = rw six-is at (decides .0 e) }), (λ s. refl)),
-          )
+        module _ {zero : Bool} (is-zero : zero ≡ isBlank six) where
+          pub blank-answer : zero ≡ true → Answers audit.Blank
+          unfolding answerOf verdictOf isSound
+          blank-answer e = verdict-answer audit.Blank (rw (← is-zero, e, and-false (isMultiple six)))
 
-          pub unsound-right : test ≡ false → Right audit.Unsound
-          unfolding auditOf answerOf foreign
-          unsound-right e =
-              not-sound audit.Unsound refl (rw (two, is-there, ← six-is, ← is-test, e))
-              (λ s. true≢false (sym (decides .1 (rw six-is (s .is-sound))) ∙ e))
+          module _ (not-zero : zero ≡ false) {test : Bool} (is-test : test ≡ isMultiple six) where
+            pub sound-answer : test ≡ true → Answers audit.Sound
+            unfolding answerOf verdictOf isSound
+            sound-answer e = verdict-answer audit.Sound (rw (← is-zero, not-zero, ← is-test, e))
+
+            pub unsound-answer : test ≡ false → Answers audit.Unsound
+            unfolding answerOf verdictOf isSound
+            unsound-answer e = verdict-answer audit.Unsound (rw (← is-zero, not-zero, ← is-test, e))

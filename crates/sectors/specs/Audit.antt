@@ -1,7 +1,8 @@
--- The header audit (01, "Header"; "audit 1, 11, 8"). Assumes nothing.
+-- The header audit (01, "Header"; "audit 1, 11, 8"; 02, item 2). Assumes nothing.
 use mathlib.Core.Path.{_≡_}
+use mathlib.Core.Logic.{_↔_}
 use Prim.Native.Nat.{ℕ, _+_, _*_}
-use mathlib.Core.Bool.{Bool, true, false, cond}
+use mathlib.Core.Bool.{true, cond}
 use mathlib.Core.List.{List}
 use lib.Dec.{eqb}
 use lib.ListN.{length}
@@ -9,25 +10,40 @@ use Rattle.sectors.specs.Fill.{part}
 use Rattle.sectors.specs.Refusal.{foreignFormat, noSuchEntry, noHeader}
 use Rattle.sectors.specs.Format.{foreign, storedSize}
 use Rattle.sectors.specs.Sector.{readable}
-use Rattle.sectors.specs.Header.{Sound, isSound}
+use Rattle.sectors.specs.Header.{Sound, Blank, Unsound, isSound, isBlank}
 use Rattle.sectors.specs.declared.header.AuditResult.{AuditResult}
 use Rattle.sectors.specs.declared.header.AuditResult.the-variants as audit
 use Rattle.sectors.specs.declared.header.AuditAnswer.{AuditAnswer}
 
--- a refusal, and what is answered where there is none: 1 for sound, 0 for unsound
-abbrev refused : ℕ → AuditAnswer
-refused number = record { refusal = number; sound = 0 }
+-- 02, item 2: "The audit shall answer sound, blank or unsound"
+abbrev pub soundVerdict : ℕ
+soundVerdict = 1
 
-abbrev judged : Bool → AuditAnswer
-judged test = record { refusal = 0; sound = cond test 1 0 }
+abbrev pub blankVerdict : ℕ
+blankVerdict = 2
+
+abbrev pub unsoundVerdict : ℕ
+unsoundVerdict = 3
+
+-- the answer where there is no refusal, and a refusal, which comes with no verdict: 0 is none of the three
+abbrev judged : ℕ → AuditAnswer
+judged verdict = record { refusal = 0; verdict = verdict }
+
+abbrev refused : ℕ → AuditAnswer
+refused number = record { refusal = number; verdict = 0 }
 
 -- "a definition states this paper's number and values for each of the enum's cases"
 unfoldable pub answerOf : AuditResult → AuditAnswer
-answerOf audit.Sound = judged true
-answerOf audit.Unsound = judged false
+answerOf audit.Sound = judged soundVerdict
+answerOf audit.Blank = judged blankVerdict
+answerOf audit.Unsound = judged unsoundVerdict
 answerOf audit.ForeignFormat = refused foreignFormat
 answerOf audit.NoHeader = refused noHeader
 answerOf audit.NoSuchEntry = refused noSuchEntry
+
+-- what is answered of a header: sound, blank, or else unsound
+unfoldable pub verdictOf : List ℕ → ℕ
+verdictOf h = cond (isSound h) soundVerdict (cond (isBlank h) blankVerdict unsoundVerdict)
 
 -- "11 | no header | audit of format 0 or 1": the format that has headers is the third, 2
 abbrev pub headerFormat : ℕ
@@ -45,11 +61,17 @@ unfoldable pub auditOf : ℕ → List ℕ → ℕ → AuditAnswer
 auditOf format image lsn =
     cond (foreign format) (refused foreignFormat)
     (cond (eqb format headerFormat)
-    (cond (readable format (length image) lsn 1) (judged (isSound (headerAt image lsn))) (refused noSuchEntry))
+    (cond (readable format (length image) lsn 1) (judged (verdictOf (headerAt image lsn))) (refused noSuchEntry))
     (refused noHeader))
 
--- The sector is one of an image that has headers, and its header is sound.
-pub record SoundIn (format : ℕ) (image : List ℕ) (lsn : ℕ) : Type 0 where
+-- The sector is one of an image that has headers, and P holds of its header.
+pub record HeaderIn (P : List ℕ → Type 0) (format : ℕ) (image : List ℕ) (lsn : ℕ) : Type 0 where
   pub has-header : format ≡ headerFormat
   pub is-there : readable headerFormat (length image) lsn 1 ≡ true
-  pub is-sound : Sound (headerAt image lsn)
+  pub its-header : P (headerAt image lsn)
+
+-- What each of the three answers means, both ways; they are cases of an enum, or numbers.
+pub record Means {A : Type 0} (sound blank unsound : A) (format : ℕ) (image : List ℕ) (lsn : ℕ) (answer : A) : Type 0 where
+  pub if-sound : (answer ≡ sound) ↔ HeaderIn Sound format image lsn
+  pub if-blank : (answer ≡ blank) ↔ HeaderIn Blank format image lsn
+  pub if-unsound : (answer ≡ unsound) ↔ HeaderIn Unsound format image lsn

@@ -1,37 +1,39 @@
--- The numbers of the audit's answers tell a sound header, and every answer. Assumes nothing.
+-- The audit's answers tell each other apart, and each of the three verdicts means what it says: of any image of bytes, by the tests that
+-- decide sound and blank. Assumes nothing.
 use mathlib.Core.Path.{_≡_, refl, sym, ap, _∙_}
-use mathlib.Core.Bool.{cond}
+use mathlib.Core.Bool.{Bool, true, false, cond, true≢false}
+use mathlib.Core.List.{List}
+use mathlib.Core.Logic.{_↔_, _≢_}
+use Prim.Native.Nat.{ℕ, _<_, _≤_}
 use native.Mathlib.Omega.{arith}
 use lib.Dec.{eqb}
+use lib.ListN.{getD, length}
+use borrow.Author.Tests.{eqb-true, eq-eqb}
+use Rattle.sectors.specs.FillLaws.{part-length, part-all-hold}
+use Rattle.sectors.specs.Format.{foreign, layoutOf, storedSize}
 use Rattle.sectors.specs.Refusal.{foreignFormat, noSuchEntry, noHeader}
-use Rattle.sectors.specs.Audit.{answerOf}
+use Rattle.sectors.specs.Sector.{readable}
+use Rattle.sectors.specs.SectorLaws.{stored-inside}
+use Rattle.sectors.specs.Header.{Multiple, Blank, Sound, Unsound, isMultiple, isBlank, isSound}
+use Rattle.sectors.specs.HeaderLaws.{finds-multiples, finds-blanks, blank-multiple, fails}
+use Rattle.sectors.specs.Audit.{HeaderIn, Means, soundVerdict, blankVerdict, unsoundVerdict, answerOf, verdictOf, auditOf, headerFormat, headerSize, headerAt}
 use Rattle.sectors.specs.declared.header.AuditAnswer.{AuditAnswer}
 use Rattle.sectors.specs.declared.header.AuditResult.{AuditResult}
 use Rattle.sectors.specs.declared.header.AuditResult.the-variants as audit
 
-pub sound-number : answerOf audit.Sound .sound ≡ 1
-unfolding answerOf
-sound-number = refl
-
-pub only-sound : (r : AuditResult) → answerOf r .sound ≡ 1 → r ≡ audit.Sound
-unfolding answerOf
-only-sound audit.Sound e = refl
-only-sound audit.Unsound e = absurd (omega arith)
-only-sound audit.ForeignFormat e = absurd (omega arith)
-only-sound audit.NoHeader e = absurd (omega arith)
-only-sound audit.NoSuchEntry e = absurd (omega arith)
-
 -- the answer of which these are the numbers
 resultOf : AuditAnswer → AuditResult
 resultOf a =
-    cond (eqb (a .refusal) foreignFormat) audit.ForeignFormat
-    (cond (eqb (a .refusal) noHeader) audit.NoHeader
-    (cond (eqb (a .refusal) noSuchEntry) audit.NoSuchEntry
-    (cond (eqb (a .sound) 1) audit.Sound audit.Unsound)))
+    cond (eqb (a .verdict) soundVerdict) audit.Sound
+    (cond (eqb (a .verdict) blankVerdict) audit.Blank
+    (cond (eqb (a .verdict) unsoundVerdict) audit.Unsound
+    (cond (eqb (a .refusal) foreignFormat) audit.ForeignFormat
+    (cond (eqb (a .refusal) noHeader) audit.NoHeader audit.NoSuchEntry))))
 
 found-again : (r : AuditResult) → resultOf (answerOf r) ≡ r
 unfolding answerOf resultOf
 found-again audit.Sound = refl
+found-again audit.Blank = refl
 found-again audit.Unsound = refl
 found-again audit.ForeignFormat = refl
 found-again audit.NoHeader = refl
@@ -39,3 +41,113 @@ found-again audit.NoSuchEntry = refl
 
 pub answer-tells : (r s : AuditResult) → answerOf r ≡ answerOf s → r ≡ s
 answer-tells r s e = sym (found-again r) ∙ ap resultOf e ∙ found-again s
+
+-- ---- the verdict on six bytes
+
+-- a number that stands exactly where P holds: it is that number and P holds, or neither
+stands : {P : Type 0} {v k : ℕ} → v ≡ k → P → v ≡ k ↔ P
+stands e p = ((λ q. p), (λ q. e))
+
+falls : {P : Type 0} {v k : ℕ} → v ≢ k → ¬ P → v ≡ k ↔ P
+falls other never = ((λ q. absurd (other q)), (λ p. absurd (never p)))
+
+abbrev Told : List ℕ → Type 0
+Told h = (verdictOf h ≡ soundVerdict ↔ Sound h) × ((verdictOf h ≡ blankVerdict ↔ Blank h) × (verdictOf h ≡ unsoundVerdict ↔ Unsound h))
+
+module _ (h : List ℕ) (six : length h ≡ 6) (bytes : (i : ℕ) → getD h i 0 < 256) where
+  -- the three exclude each other, and one of them holds
+  told-by : (m b : Bool) → isMultiple h ≡ m → isBlank h ≡ b → Told h
+  unfolding verdictOf isSound
+  told-by true true e f =
+      let v : verdictOf h ≡ blankVerdict = rw (e, f) in let blank = finds-blanks h .0 f in (
+        falls (λ q. omega (arith, v, q)) (λ s. s .not-blank blank),
+        (stands v blank, falls (λ q. omega (arith, v, q)) (λ u. u .no-multiple (blank-multiple h blank))),
+      )
+  told-by true false e f =
+      let v : verdictOf h ≡ soundVerdict = rw (e, f) in
+      let multiple = finds-multiples h six bytes .0 e in
+      let not-blank = fails (isBlank h) (finds-blanks h) .0 f in (
+        stands v (record { is-multiple = multiple; not-blank = not-blank }),
+        (falls (λ q. omega (arith, v, q)) not-blank, falls (λ q. omega (arith, v, q)) (λ u. u .no-multiple multiple)),
+      )
+  told-by false b e f =
+      let none = fails (isMultiple h) (finds-multiples h six bytes) .0 e in
+      let not-blank : ¬ Blank h = λ blank. none (blank-multiple h blank) in
+      let v : verdictOf h ≡ unsoundVerdict = rw (e, fails (isBlank h) (finds-blanks h) .1 not-blank) in (
+        falls (λ q. omega (arith, v, q)) (λ s. none (s .is-multiple)),
+        (falls (λ q. omega (arith, v, q)) not-blank, stands v (record { no-multiple = none })),
+      )
+
+  told : Told h
+  told = told-by (isMultiple h) (isBlank h) refl refl
+
+-- ---- the audit's answer
+
+header-inside : headerSize ≤ storedSize headerFormat
+unfolding storedSize layoutOf
+header-inside = omega arith
+
+module _ (format : ℕ) (image : List ℕ) (lsn : ℕ) where
+  -- a header that is there is judged, and only such a one
+  judged-there : format ≡ headerFormat → readable headerFormat (length image) lsn 1 ≡ true → auditOf format image lsn .verdict ≡ verdictOf (headerAt image lsn)
+  unfolding auditOf foreign
+  judged-there two there = rw (two, there)
+
+  abbrev There : Type 0
+  There = (format ≡ headerFormat) × (readable headerFormat (length image) lsn 1 ≡ true)
+
+  there-by : (far two there : Bool) → foreign format ≡ far → eqb format headerFormat ≡ two → readable format (length image) lsn 1 ≡ there
+      → auditOf format image lsn .verdict ≢ 0 → There
+  unfolding auditOf
+  there-by true two there e f g v = absurd (v (rw e))
+  there-by false false there e f g v = absurd (v (rw (e, f)))
+  there-by false true false e f g v = absurd (v (rw (e, f, g)))
+  there-by false true true e f g v = let is-two = eqb-true format headerFormat f in (is-two, rw is-two at g)
+
+  there : auditOf format image lsn .verdict ≢ 0 → There
+  there = there-by (foreign format) (eqb format headerFormat) (readable format (length image) lsn 1) refl refl refl
+
+  -- what a verdict means of six bytes, it means of the header in the image
+  in-image : (P : List ℕ → Type 0) (k : ℕ) → 0 < k → (There → verdictOf (headerAt image lsn) ≡ k ↔ P (headerAt image lsn))
+      → auditOf format image lsn .verdict ≡ k ↔ HeaderIn P format image lsn
+  in-image P k some means = (
+    (λ e.
+        let t = there (λ none. omega (arith, e, none, some)) in
+        record { has-header = t .0; is-there = t .1; its-header = means t .0 (sym (judged-there (t .0) (t .1)) ∙ e) }),
+    (λ s. judged-there (s .has-header) (s .is-there) ∙ means (s .has-header, s .is-there) .1 (s .its-header)),
+  )
+
+  -- "The audit shall answer sound, blank or unsound": what each of the numbers means
+  module _ (bytes : (i : ℕ) → getD image i 0 < 256) where
+    there-told : There → Told (headerAt image lsn)
+    unfolding headerAt
+    there-told t =
+        told (headerAt image lsn) (part-length _ headerSize image (omega (arith, stored-inside headerFormat image lsn (t .1), header-inside)))
+        (part-all-hold (λ b. b < 256) _ headerSize image 0 bytes)
+
+    pub verdict-means : Means soundVerdict blankVerdict unsoundVerdict format image lsn (auditOf format image lsn .verdict)
+    verdict-means = record {
+      if-sound = in-image Sound soundVerdict (omega arith) (λ t. there-told t .0);
+      if-blank = in-image Blank blankVerdict (omega arith) (λ t. there-told t .1 .0);
+      if-unsound = in-image Unsound unsoundVerdict (omega arith) (λ t. there-told t .1 .1);
+    }
+
+    -- and what each case of the enum
+    module _ (r : AuditResult) (answer : answerOf r ≡ auditOf format image lsn) where
+      number : {v : ℕ} → auditOf format image lsn .verdict ≡ v → answerOf r .verdict ≡ v
+      number e = ap (λ (a : AuditAnswer). a .verdict) answer ∙ e
+
+      case-means : {P : List ℕ → Type 0} (c : AuditResult) → (answerOf r .verdict ≡ answerOf c .verdict → r ≡ c)
+          → (auditOf format image lsn .verdict ≡ answerOf c .verdict ↔ HeaderIn P format image lsn) → r ≡ c ↔ HeaderIn P format image lsn
+      case-means c tells means = (
+        (λ e. means .0 (sym (number refl) ∙ ap (λ (x : AuditResult). answerOf x .verdict) e)),
+        (λ p. tells (number (means .1 p))),
+      )
+
+      pub result-means : Means audit.Sound audit.Blank audit.Unsound format image lsn r
+      unfolding answerOf resultOf
+      result-means = record {
+        if-sound = case-means audit.Sound (λ e. sym (found-again r) ∙ (rw e)) (verdict-means .if-sound);
+        if-blank = case-means audit.Blank (λ e. sym (found-again r) ∙ (rw e)) (verdict-means .if-blank);
+        if-unsound = case-means audit.Unsound (λ e. sym (found-again r) ∙ (rw e)) (verdict-means .if-unsound);
+      }

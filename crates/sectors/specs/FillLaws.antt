@@ -2,10 +2,13 @@
 use Prim.Native.Nat.{ℕ, zero, suc, _+_, _-_, _≤_, _<_, min}
 use native.Mathlib.Omega.{arith}
 use native.Mathlib.Nat.{add-zero, zero-add, add-comm}
-use mathlib.Core.Path.{_≡_, sym, _∙_, ap}
+use mathlib.Core.Path.{_≡_, refl, sym, _∙_, ap, subst}
+use mathlib.Core.Bool.{Bool, true, false}
 use mathlib.Core.List.{List, [], _∷_, _++_, append-assoc}
+use borrow.Author.Tests.{ltb-true, ltb-false}
 use borrow.Rule.Slice.PartMut.{putMid}
-use lib.ListN.{length, take, drop, getD, set, length-append, length-take, length-drop, take-append-drop, drop-of-length-le}
+use lib.Dec.{ltb}
+use lib.ListN.{length, take, drop, getD, set, length-append, length-take, length-drop, take-append-drop, drop-of-length-le, List·getD-eq-default}
 use lib.Seq.{sets, sets-eq, take-all, take-nil, drop-nil, take-take, length-take-le, take-append-le, drop-append-le, drop-append-add, take-append-seam, drop-drop, drop-cons, set-at, take-at, drop-at, getD-take, getD-drop}
 use Rattle.sectors.specs.Fill.{part, fill, startAt}
 
@@ -47,6 +50,16 @@ module _ {A : Type 0} where
   pub part-at : (at n : ℕ) (l : List A) (i : ℕ) (d : A) → i < n → getD (part at n l) i d ≡ getD l (at + i) d
   unfolding part
   part-at at n l i d q = getD-take n (drop at l) i d q ∙ getD-drop at l i d
+
+  -- what holds of each element, and of what is given past the end, holds of those of a part
+  pub part-all-hold : (P : A → Type 0) (at n : ℕ) (l : List A) (d : A) → ((i : ℕ) → P (getD l i d)) → (i : ℕ) → P (getD (part at n l) i d)
+  part-all-hold P at n l d holds i = go (ltb i n) refl
+    where
+      go : (inside : Bool) → ltb i n ≡ inside → P (getD (part at n l) i d)
+      go true e = rw (part-at at n l i d (ltb-true i n e)) (holds (at + i))
+      go false e =
+          let past : length (part at n l) ≤ i = omega (arith, part-size at n l, ltb-false i n e) in
+          rw (List·getD-eq-default (part at n l) d past) (subst P (List·getD-eq-default l d {n = length l} (omega arith)) (holds (length l)))
 
   -- at or past the end there is no part
   pub part-past : (at n : ℕ) (l : List A) → length l ≤ at → part at n l ≡ []

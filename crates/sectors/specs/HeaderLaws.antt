@@ -1,14 +1,17 @@
 -- Six bytes are a multiple of (x + 1)(x + α) where they are zero at 1 and at α, and only there. A product is zero at both. The other
 -- way, Horner's values at α are the quotient by x + α; that is zero at 1 too, so x + 1 divides it. Assumes nothing.
-use mathlib.Core.Path.{_≡_, ap, _∙_}
+use mathlib.Core.Path.{_≡_, refl, sym, ap, _∙_}
 use mathlib.Core.List.{List, [], _∷_}
-use mathlib.Core.Bool.{true, and-eq-true-iff}
+use mathlib.Core.Logic.{_↔_}
+use mathlib.Core.Bool.{Bool, true, false, not, and-eq-true-iff, true≢false}
 use Prim.Native.Nat.{ℕ, _<_}
 use lib.Dec.{eqb}
 use lib.ListN.{getD, length}
-use borrow.Author.Tests.{eqb-true}
+use borrow.Author.Tests.{eqb-true, not-true}
+use native.Mathlib.Omega.{arith}
+use Rattle.sectors.specs.BytesLaws.{same-eq, same-refl}
 use Rattle.sectors.specs.Field.{_⊕_, timesAlpha}
-use Rattle.sectors.specs.Header.{timesRoot, product, Multiple, Sound, atOne, atAlpha, isMultiple, isSound}
+use Rattle.sectors.specs.Header.{timesRoot, product, Multiple, Blank, Sound, sixZeros, atOne, atAlpha, isMultiple, isBlank, isSound}
 use Rattle.sectors.specs.XorLaws.{sums, sum-lt, zero-sum, equal-if-zero}
 use Rattle.sectors.specs.AlphaLaws.{linear, alpha-zero, alpha-lt, only-zero-stays}
 use Rattle.sectors.specs.TableLaws.{values, places}
@@ -65,7 +68,7 @@ unfolding values
 zeros-multiple h long byte = rw (places h 6 long) (six-zeros-multiple _ _ _ _ _ _ (byte 0) (byte 1) (byte 2) (byte 3) (byte 4))
 
 -- the test finds the multiples, of any six bytes, and only them
-finds-multiples : (h : List ℕ) → length h ≡ 6 → ((i : ℕ) → getD h i 0 < 256) → (isMultiple h ≡ true → Multiple h) × (Multiple h → isMultiple h ≡ true)
+pub finds-multiples : (h : List ℕ) → length h ≡ 6 → ((i : ℕ) → getD h i 0 < 256) → isMultiple h ≡ true ↔ Multiple h
 unfolding isMultiple
 finds-multiples h long byte = (
   (λ e.
@@ -74,9 +77,41 @@ finds-multiples h long byte = (
   (λ q. rw (q .multiple) at (product-passes (q .a) (q .b) (q .c) (q .d) (q .a-byte) (q .b-byte) (q .c-byte) (q .d-byte))),
 )
 
--- "It is sound when the six, first byte highest, are a multiple of (x + 1)(x + α)": of any six bytes the test passes where they are, and only
--- there.
-pub decides : (h : List ℕ) → length h ≡ 6 → ((i : ℕ) → getD h i 0 < 256) → (isSound h ≡ true → Sound h) × (Sound h → isSound h ≡ true)
+-- "blank being exactly those six zeros"
+pub finds-blanks : (h : List ℕ) → isBlank h ≡ true ↔ Blank h
+unfolding isBlank
+finds-blanks h = ((λ e. record { is-zeros = same-eq h sixZeros e }), (λ b. rw (b .is-zeros) (same-refl sixZeros)))
+
+-- "zero is a multiple of everything"
+pub blank-multiple : (h : List ℕ) → Blank h → Multiple h
+unfolding product timesRoot
+blank-multiple h b =
+    let byte : 0 < 256 = omega arith in
+    record {
+      a = 0;
+      b = 0;
+      c = 0;
+      d = 0;
+      a-byte = byte;
+      b-byte = byte;
+      c-byte = byte;
+      d-byte = byte;
+      multiple = (simp (sums, alpha-zero)) ∙ sym (b .is-zeros);
+    }
+
+-- a test that decides P fails where P does not hold, and only there
+pub fails : {P : Type 0} (test : Bool) → (test ≡ true ↔ P) → test ≡ false ↔ (¬ P)
+fails true decided = ((λ e. absurd (true≢false e)), (λ never. absurd (never (decided .0 refl))))
+fails false decided = ((λ e p. true≢false (sym (decided .1 p))), (λ never. refl))
+
+-- "It is sound when the six, first byte highest, are a multiple of (x + 1)(x + α)", but for blank ones: of any six bytes the test passes where they
+-- are sound, and only there.
+pub decides : (h : List ℕ) → length h ≡ 6 → ((i : ℕ) → getD h i 0 < 256) → isSound h ≡ true ↔ Sound h
 unfolding isSound
 decides h long byte =
-    let found = finds-multiples h long byte in ((λ e. record { is-multiple = found .0 e }), (λ s. found .1 (s .is-multiple)))
+    let multiple = finds-multiples h long byte in
+    let blank = fails (isBlank h) (finds-blanks h) in
+    let both = and-eq-true-iff (isMultiple h) (not (isBlank h)) in (
+      (λ e. record { is-multiple = multiple .0 (both .0 e .0); not-blank = blank .0 (not-true (isBlank h) (both .0 e .1)) }),
+      (λ s. both .1 (multiple .1 (s .is-multiple), ap not (blank .1 (s .not-blank)))),
+    )

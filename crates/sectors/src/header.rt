@@ -1,9 +1,11 @@
-// The header of a sector of a format 2 image: six bytes, sound when they are a multiple of (x + 1)(x + α).
+// The header of a sector of a format 2 image: six bytes, blank when they are zeros, sound when they are another multiple of (x + 1)(x + α).
 ghost use mathlib.Core.Path.{_≡_};
 ghost use mathlib.Core.Bool.{true};
 ghost use lib.ListN.{length};
-ghost use Rattle.sectors.specs.Header.{Sound, atOne, atAlpha, isSound};
-ghost use Rattle.sectors.specs.Audit.{SoundIn, answerOf, auditOf};
+ghost use mathlib.Core.Logic.{_↔_};
+ghost use Rattle.sectors.specs.Header.{Multiple, atOne, atAlpha, isMultiple, isBlank};
+ghost use Rattle.sectors.specs.Audit.{Means, answerOf, auditOf};
+use crate::bytes::same_bytes;
 use crate::field::times_alpha;
 use crate::refusal::FOREIGN_FORMAT;
 use crate::refusal::NO_HEADER;
@@ -22,17 +24,25 @@ pub const HEADER_FORMAT: u32 = 2;
 // What the audit of a header answers.
 pub enum AuditResult {
     Sound,
+    Blank,
     Unsound,
     ForeignFormat,
     NoHeader,
     NoSuchEntry,
 }
 
-// The same as numbers: a refusal, or 0 and whether the header is sound, as 1 or 0.
+// The verdicts as numbers.
+pub const SOUND: u8 = 1;
+
+pub const BLANK: u8 = 2;
+
+pub const UNSOUND: u8 = 3;
+
+// The same as numbers: 0 and the verdict, or a refusal and 0.
 #[repr(C)]
 pub struct AuditAnswer {
     pub refusal: u8,
-    pub sound: u8,
+    pub verdict: u8,
 }
 
 // The value at 1 of the polynomial whose coefficients are bytes, the first the highest.
@@ -61,19 +71,28 @@ fn at_alpha(h: &[u8]) -> u8
     v
 }
 
-// Whether six bytes are sound: they are zero at 1 and at α.
-fn is_sound(h: &[u8]) -> bool
+// Whether six bytes are a multiple of (x + 1)(x + α): they are zero at 1 and at α.
+fn is_multiple(h: &[u8]) -> bool
     requires { ⌜ length (now h) ≡ 6 ⌝ }
-    ensures test { λ r. ⌜ r ≡ isSound (now (h .entry)) ⌝ }
-    ensures decides { λ r. ⌜ (r ≡ true → Sound (now (h .entry))) × (Sound (now (h .entry)) → r ≡ true) ⌝ }
+    ensures test { λ r. ⌜ r ≡ isMultiple (now (h .entry)) ⌝ }
+    ensures decides { λ r. ⌜ (r ≡ true) ↔ Multiple (now (h .entry)) ⌝ }
 {
     (at_one(h) == 0) & (at_alpha(h) == 0)
+}
+
+// Whether bytes are those of a blank header, six zeros.
+fn is_blank(h: &[u8]) -> bool
+    requires { ⌜ length (now h) ≡ 6 ⌝ }
+    ensures { λ r. ⌜ r ≡ isBlank (now (h .entry)) ⌝ }
+{
+    let zeros = [0u8; HEADER_SIZE];
+    same_bytes(h, &zeros)
 }
 
 // Audits the header of a sector.
 pub fn audit(format: u32, image: &[u8], lsn: Lsn) -> AuditResult
     ensures answer { λ r. ⌜ answerOf r ≡ auditOf format (now (image .entry)) (lsn .0) ⌝ }
-    ensures decides { λ r. ⌜ (r ≡ AuditResult.Sound → SoundIn format (now (image .entry)) (lsn .0)) × (SoundIn format (now (image .entry)) (lsn .0) → r ≡ AuditResult.Sound) ⌝ }
+    ensures means { λ r. ⌜ Means AuditResult.Sound AuditResult.Blank AuditResult.Unsound format (now (image .entry)) (lsn .0) r ⌝ }
 {
     if is_foreign(format) {
         return AuditResult::ForeignFormat;
@@ -85,7 +104,10 @@ pub fn audit(format: u32, image: &[u8], lsn: Lsn) -> AuditResult
         return AuditResult::NoSuchEntry;
     }
     let header = stored_part(format, image, lsn.0 as usize, 0, HEADER_SIZE);
-    if is_sound(header) {
+    if is_blank(header) {
+        return AuditResult::Blank;
+    }
+    if is_multiple(header) {
         return AuditResult::Sound;
     }
     AuditResult::Unsound
@@ -98,23 +120,27 @@ pub fn audit_answer(a: AuditResult) -> AuditAnswer
     match a {
         AuditResult::Sound => AuditAnswer {
             refusal: 0,
-            sound: 1,
+            verdict: SOUND,
+        },
+        AuditResult::Blank => AuditAnswer {
+            refusal: 0,
+            verdict: BLANK,
         },
         AuditResult::Unsound => AuditAnswer {
             refusal: 0,
-            sound: 0,
+            verdict: UNSOUND,
         },
         AuditResult::ForeignFormat => AuditAnswer {
             refusal: FOREIGN_FORMAT,
-            sound: 0,
+            verdict: 0,
         },
         AuditResult::NoHeader => AuditAnswer {
             refusal: NO_HEADER,
-            sound: 0,
+            verdict: 0,
         },
         AuditResult::NoSuchEntry => AuditAnswer {
             refusal: NO_SUCH_ENTRY,
-            sound: 0,
+            verdict: 0,
         },
     }
 }

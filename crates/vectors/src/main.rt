@@ -4,6 +4,8 @@ mod texts;
 
 use libc::STDOUT_FILENO;
 use sectors::bytes::copy_bytes;
+use sectors::header::BLANK;
+use sectors::header::SOUND;
 use sectors::header::audit;
 use sectors::header::audit_answer;
 use sectors::run::read_sectors;
@@ -31,8 +33,12 @@ fn audit_line(format: u32, image: &[u8], lsn: u32) {
         refusal_line(answer.refusal);
         return;
     }
-    if answer.sound == 1 {
+    if answer.verdict == SOUND {
         io::write_all(STDOUT_FILENO, b"sound\n");
+        return;
+    }
+    if answer.verdict == BLANK {
+        io::write_all(STDOUT_FILENO, b"blank\n");
         return;
     }
     io::write_all(STDOUT_FILENO, b"unsound\n");

@@ -12,7 +12,7 @@ use Rattle.sectors.specs.Bytes.{same}
 use Rattle.sectors.specs.BytesLaws.{same-eq}
 use Rattle.sectors.specs.Field.{_⊕_, timesAlpha}
 use Rattle.sectors.specs.Fill.{fill}
-use Rattle.sectors.specs.Header.{atOne, atAlpha, isMultiple, isSound}
+use Rattle.sectors.specs.Header.{atOne, atAlpha, isMultiple, isBlank, isSound}
 use Rattle.sectors.specs.HeaderLaws.{decides}
 use Rattle.text.specs.Charset.{latin1, setOf, isMapped, charsetOf}
 use Rattle.text.specs.Decode.{latin1Points, pointsOf, giving, answerIn, pageWith, decodeOf, decodeInto}
@@ -25,7 +25,7 @@ use Rattle.worked.specs.Cards.{Card, frameCard, capCard, byteCard, chars
 
 cards-pass : allPass cards ≡ true
 unfolding
-    cards alike sameTimes decodesTo areBytes passes allPass frameNumber exceeds capped uncapped capOf latin1Points pointsOf giving answerIn pageWith decodeOf decodeInto present groups marked utf8 blanked encoded flatMap fill same setOf isMapped charsetOf _⊕_ timesAlpha atOne atAlpha isMultiple isSound
+    cards alike sameTimes decodesTo areBytes passes allPass frameNumber exceeds capped uncapped capOf latin1Points pointsOf giving answerIn pageWith decodeOf decodeInto present groups marked utf8 blanked encoded flatMap fill same setOf isMapped charsetOf _⊕_ timesAlpha atOne atAlpha isMultiple isBlank isSound
 cards-pass = refl
 
 -- ---- a card whose test passes holds
