@@ -1,21 +1,21 @@
 -- The audit's answers tell each other apart, and each of the three verdicts means what it says: of any image of bytes, by the tests that
 -- decide sound and blank. Assumes nothing.
 use mathlib.Core.Path.{_≡_, refl, sym, ap, _∙_}
-use mathlib.Core.Bool.{Bool, true, false, cond, true≢false}
+use mathlib.Core.Bool.{Bool, true, false, cond}
 use mathlib.Core.List.{List}
 use mathlib.Core.Logic.{_↔_, _≢_}
 use Prim.Native.Nat.{ℕ, _<_, _≤_}
 use native.Mathlib.Omega.{arith}
 use lib.Dec.{eqb}
 use lib.ListN.{getD, length}
-use borrow.Author.Tests.{eqb-true, eq-eqb}
+use borrow.Author.Tests.{eqb-true, eqb-false}
 use Rattle.sectors.specs.FillLaws.{part-length, part-all-hold}
 use Rattle.sectors.specs.Format.{foreign, layoutOf, storedSize}
-use Rattle.sectors.specs.Refusal.{foreignFormat, noSuchEntry, noHeader}
+use Rattle.sectors.specs.Refusal.{foreignFormat, noHeader}
 use Rattle.sectors.specs.Sector.{readable}
 use Rattle.sectors.specs.SectorLaws.{stored-inside}
-use Rattle.sectors.specs.Header.{Multiple, Blank, Sound, Unsound, isMultiple, isBlank, isSound}
-use Rattle.sectors.specs.HeaderLaws.{finds-multiples, finds-blanks, blank-multiple, fails}
+use Rattle.sectors.specs.Header.{Blank, Sound, Unsound, isBlank, isSound}
+use Rattle.sectors.specs.HeaderLaws.{finds-blanks, blank-multiple, fails, decides}
 use Rattle.sectors.specs.Audit.{HeaderIn, Means, soundVerdict, blankVerdict, unsoundVerdict, answerOf, verdictOf, auditOf, headerFormat, headerSize, headerAt}
 use Rattle.sectors.specs.declared.header.AuditAnswer.{AuditAnswer}
 use Rattle.sectors.specs.declared.header.AuditResult.{AuditResult}
@@ -44,42 +44,35 @@ answer-tells r s e = sym (found-again r) ∙ ap resultOf e ∙ found-again s
 
 -- ---- the verdict on six bytes
 
--- a number that stands exactly where P holds: it is that number and P holds, or neither
-stands : {P : Type 0} {v k : ℕ} → v ≡ k → P → v ≡ k ↔ P
-stands e p = ((λ q. p), (λ q. e))
+-- a number comes exactly where P holds: it has come and P holds, or another has come and P does not hold
+comes : {P : Type 0} {v k : ℕ} → v ≡ k → P → v ≡ k ↔ P
+comes e p = ((λ q. p), (λ q. e))
 
-falls : {P : Type 0} {v k : ℕ} → v ≢ k → ¬ P → v ≡ k ↔ P
-falls other never = ((λ q. absurd (other q)), (λ p. absurd (never p)))
+stays-away : {P : Type 0} {v n k : ℕ} → v ≡ n → eqb n k ≡ false → ¬ P → v ≡ k ↔ P
+stays-away {n = n} {k = k} e other never = ((λ q. absurd (eqb-false n k other (sym e ∙ q))), (λ p. absurd (never p)))
 
 abbrev Told : List ℕ → Type 0
 Told h = (verdictOf h ≡ soundVerdict ↔ Sound h) × ((verdictOf h ≡ blankVerdict ↔ Blank h) × (verdictOf h ≡ unsoundVerdict ↔ Unsound h))
 
+-- the three exclude each other, and one of them holds
 module _ (h : List ℕ) (six : length h ≡ 6) (bytes : (i : ℕ) → getD h i 0 < 256) where
-  -- the three exclude each other, and one of them holds
-  told-by : (m b : Bool) → isMultiple h ≡ m → isBlank h ≡ b → Told h
-  unfolding verdictOf isSound
-  told-by true true e f =
-      let v : verdictOf h ≡ blankVerdict = rw (e, f) in let blank = finds-blanks h .0 f in (
-        falls (λ q. omega (arith, v, q)) (λ s. s .not-blank blank),
-        (stands v blank, falls (λ q. omega (arith, v, q)) (λ u. u .no-multiple (blank-multiple h blank))),
-      )
-  told-by true false e f =
-      let v : verdictOf h ≡ soundVerdict = rw (e, f) in
-      let multiple = finds-multiples h six bytes .0 e in
-      let not-blank = fails (isBlank h) (finds-blanks h) .0 f in (
-        stands v (record { is-multiple = multiple; not-blank = not-blank }),
-        (falls (λ q. omega (arith, v, q)) not-blank, falls (λ q. omega (arith, v, q)) (λ u. u .no-multiple multiple)),
-      )
-  told-by false b e f =
-      let none = fails (isMultiple h) (finds-multiples h six bytes) .0 e in
-      let not-blank : ¬ Blank h = λ blank. none (blank-multiple h blank) in
-      let v : verdictOf h ≡ unsoundVerdict = rw (e, fails (isBlank h) (finds-blanks h) .1 not-blank) in (
-        falls (λ q. omega (arith, v, q)) (λ s. none (s .is-multiple)),
-        (falls (λ q. omega (arith, v, q)) not-blank, stands v (record { no-multiple = none })),
-      )
+  told-by : (s b : Bool) → isSound h ≡ s → isBlank h ≡ b → Told h
+  unfolding verdictOf
+  told-by true b e f =
+      let v : verdictOf h ≡ soundVerdict = rw e in let sound = decides h six bytes .0 e in
+      (comes v sound, (stays-away v refl (sound .not-blank), stays-away v refl (λ u. u .no-multiple (sound .is-multiple))))
+  told-by false true e f =
+      let v : verdictOf h ≡ blankVerdict = rw (e, f) in let blank = finds-blanks h .0 f in
+      (stays-away v refl (λ s. s .not-blank blank), (comes v blank, stays-away v refl (λ u. u .no-multiple (blank-multiple h blank))))
+  told-by false false e f =
+      let v : verdictOf h ≡ unsoundVerdict = rw (e, f) in
+      let not-sound = fails (isSound h) (decides h six bytes) .0 e in
+      let not-blank = fails (isBlank h) (finds-blanks h) .0 f in
+      let unsound : Unsound h = record { no-multiple = λ m. not-sound (record { is-multiple = m; not-blank = not-blank }) } in
+      (stays-away v refl not-sound, (stays-away v refl not-blank, comes v unsound))
 
   told : Told h
-  told = told-by (isMultiple h) (isBlank h) refl refl
+  told = told-by (isSound h) (isBlank h) refl refl
 
 -- ---- the audit's answer
 
