@@ -74,6 +74,14 @@ enum {
     SCARLETBOOK_RAW2064 = 2  /* 2,064 bytes a sector, data from byte 12, behind a header */
 };
 
+/* ---- Verdicts on a sector header; 0 is none ---- */
+
+enum {
+    SCARLETBOOK_SOUND = 1,  /* a multiple of (x + 1)(x + alpha), and not blank */
+    SCARLETBOOK_BLANK = 2,  /* six zero bytes, as in unwritten stretches, whatever the data are */
+    SCARLETBOOK_UNSOUND = 3 /* no multiple */
+};
+
 /* ---- Refusals ---- */
 
 enum {
@@ -416,7 +424,7 @@ typedef struct scarletbook_fingerprint_answer {
 /* The answer of scarletbook_audit. */
 typedef struct scarletbook_audit_answer {
     uint8_t refusal;
-    uint8_t sound; /* 1 when the header is sound; 0 with a refusal */
+    uint8_t verdict; /* SCARLETBOOK_SOUND, SCARLETBOOK_BLANK or SCARLETBOOK_UNSOUND; 0 with a refusal */
 } scarletbook_audit_answer;
 
 /* The answer of the decoding functions. */
@@ -588,7 +596,7 @@ scarletbook_comparison scarletbook_compare_sectors(uint32_t format, const uint8_
                                                    uint32_t lsn, size_t count, const uint8_t *bytes,
                                                    size_t bytes_len);
 
-/* Whether the header of a sector is sound (ECMA-267). Refused, in this order: 1; 11; 8. */
+/* Whether the header of a sector is sound (ECMA-267), blank or unsound. Refused, in this order: 1; 11; 8. */
 scarletbook_audit_answer scarletbook_audit(uint32_t format, const uint8_t *image, size_t image_len,
                                            uint32_t lsn);
 

@@ -135,12 +135,37 @@ static void sectors(void)
     CHECK(scarletbook_read_sectors(format, raw, sizeof raw, 2, 1, data, sizeof data, 3) == SCARLETBOOK_SHORT_BUFFER);
     CHECK(scarletbook_compare_sectors(format, raw, sizeof raw, 2, 1, data + 2, sizeof data - 2).equal == 1);
     CHECK(scarletbook_compare_sectors(format, raw, sizeof raw, 1, 1, data + 2, sizeof data - 2).equal == 0);
-    CHECK(scarletbook_audit(format, raw, sizeof raw, 2).sound == 1);
-    CHECK(scarletbook_audit(SCARLETBOOK_PLAIN, raw, sizeof raw, 2).refusal == SCARLETBOOK_NO_HEADER);
     CHECK(scarletbook_fingerprint(format, raw, sizeof raw, 2).digest == scarletbook_digest(data + 2, sizeof data - 2));
     CHECK(scarletbook_fingerprint(format, raw, sizeof raw, 3).refusal == SCARLETBOOK_NO_SUCH_ENTRY);
     CHECK(scarletbook_digest((const uint8_t *)"foobar", 6) == UINT64_C(0x85944171f73967e8));
     CHECK(scarletbook_wrapping_mul(UINT64_C(0x8000000000000001), 3) == UINT64_C(0x8000000000000003));
+}
+
+/* The audit of a header, before data of any bytes. */
+static scarletbook_audit_answer audit(const char *header)
+{
+    static uint8_t raw[2064];
+    memset(raw, 0xe9, sizeof raw);
+    put(raw, header, 6);
+    return scarletbook_audit(SCARLETBOOK_RAW2064, raw, sizeof raw, 0);
+}
+
+static void headers(void)
+{
+    static const uint8_t raw[2064] = {0, 0, 0, 1, 3, 2};
+    CHECK(audit("\0\0\0\1\3\2").refusal == 0 && audit("\0\0\0\1\3\2").verdict == SCARLETBOOK_SOUND);
+    CHECK(audit("\0\0\0\0\0\0").refusal == 0 && audit("\0\0\0\0\0\0").verdict == SCARLETBOOK_BLANK);
+    CHECK(audit("\0\0\0\1\2\3").refusal == 0 && audit("\0\0\0\1\2\3").verdict == SCARLETBOOK_UNSOUND);
+    CHECK(audit("\0\0\0\0\0\1").verdict == SCARLETBOOK_UNSOUND);
+    CHECK(audit("\1\0\0\0\0\0").verdict == SCARLETBOOK_UNSOUND);
+    scarletbook_audit_answer refused = scarletbook_audit(3, raw, sizeof raw, 0);
+    CHECK(refused.refusal == SCARLETBOOK_FOREIGN_FORMAT && refused.verdict == 0);
+    refused = scarletbook_audit(SCARLETBOOK_PLAIN, raw, sizeof raw, 0);
+    CHECK(refused.refusal == SCARLETBOOK_NO_HEADER && refused.verdict == 0);
+    refused = scarletbook_audit(SCARLETBOOK_RAW2064, raw, sizeof raw, 1);
+    CHECK(refused.refusal == SCARLETBOOK_NO_SUCH_ENTRY && refused.verdict == 0);
+    refused = scarletbook_audit(SCARLETBOOK_RAW2064, raw, sizeof raw - 1, 0);
+    CHECK(refused.refusal == SCARLETBOOK_NO_SUCH_ENTRY && refused.verdict == 0);
 }
 
 static void parts_of_tables(void)
@@ -221,6 +246,7 @@ int main(void)
     discs();
     lone_tables();
     sectors();
+    headers();
     parts_of_tables();
     no_memory();
     no_bytes();

@@ -24,6 +24,13 @@ static void print_sizes(void)
     NUMBER(RAW2064);
 }
 
+static void print_verdicts(void)
+{
+    NUMBER(SOUND);
+    NUMBER(BLANK);
+    NUMBER(UNSOUND);
+}
+
 static void print_refusals(void)
 {
     NUMBER(FOREIGN_FORMAT);
@@ -116,6 +123,7 @@ static void print_words(void)
 int main(void)
 {
     print_sizes();
+    print_verdicts();
     print_refusals();
     print_warnings();
     print_items();

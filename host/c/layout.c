@@ -125,7 +125,7 @@ static void print_audit_answer(void)
 {
     RECORD(audit_answer, scarletbook_audit_answer);
     FIELD(uint8_t, refusal);
-    FIELD(uint8_t, sound);
+    FIELD(uint8_t, verdict);
 }
 
 static void print_decode_answer(void)

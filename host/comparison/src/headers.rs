@@ -1,36 +1,112 @@
-//! The audit of many headers, against a plain division of polynomials.
+//! The audit of many headers, and of images with a blank stretch, against a plain division of
+//! polynomials.
 
 use crate::tally::Kind;
 use generate::Rng;
-use generate::header::{self, Header};
+use generate::header::{self, Header, Verdict};
 use scarletbook::SectorFormat;
 use scarletbook::raw::AuditAnswer;
 
 const STORED: usize = 2064;
 /// Other correct headers, and as many of any bytes, beside each one and its single changes.
 const OTHERS: usize = 500;
+/// The sectors of a stretch, and of each part of the image beside it, at most.
+const PART: usize = 12;
 
-pub fn new() -> Kind {
-    Kind::new("audit, headers", &["correct", "one byte changed", "random", "sound", "unsound"])
+pub struct Headers {
+    pub many: Kind,
+    pub stretches: Kind,
 }
 
-/// At least so many headers: correct ones, all their single changes, random ones.
-pub fn cases(kind: &mut Kind, rng: &mut Rng, least: u64) {
-    let mut image = Vec::new();
-    while kind.cases < least {
+impl Headers {
+    pub fn new() -> Self {
+        let zeros = ["six zeros", "one byte changed in zeros"];
+        let others = ["correct", "one byte changed", "random"];
+        let verdicts = ["sound", "blank", "unsound"];
+        let stretches = PLACES.map(Place::class);
+        let data = ["blank before zeros", "blank before data"];
+        Headers {
+            many: Kind::new("audit, headers", &[&zeros[..], &others, &verdicts].concat()),
+            stretches: Kind::new("audit, stretches", &[&stretches[..], &data, &verdicts].concat()),
+        }
+    }
+
+    /// At least so many headers, and a tenth as many in images with blank stretches.
+    pub fn cases(&mut self, seed: u64, least: u64) {
+        let rng = &mut Rng::new(seed);
+        while self.many.cases < least {
+            self.correct_and_random(rng);
+        }
+        self.zeros();
+        while self.stretches.cases < least / 10 {
+            for (place, data) in
+                PLACES.into_iter().flat_map(|place| [(place, false), (place, true)])
+            {
+                self.stretch(rng, place, data);
+            }
+        }
+    }
+
+    /// Six zeros, and every header that differs from them in one byte.
+    fn zeros(&mut self) {
+        let changed = header::single_changes([0; 6]);
+        let headers: Vec<_> = [[0; 6]].into_iter().chain(changed).collect();
+        audit_all(&mut self.many, &image(&headers));
+        self.many.class("six zeros", 1);
+        self.many.class("one byte changed in zeros", headers.len() - 1);
+    }
+
+    /// A correct header, all its single changes, other correct ones, random ones.
+    fn correct_and_random(&mut self, rng: &mut Rng) {
         let correct = any_correct(rng);
         let mut headers = vec![correct];
         headers.extend(header::single_changes(correct));
         let changed = headers.len() - 1;
         headers.extend((0..OTHERS).map(|_| any_correct(rng)));
         headers.extend((0..OTHERS).map(|_| random(rng)));
-        put(&mut image, &headers);
-        for (lsn, &header) in headers.iter().enumerate() {
-            audit(kind, &image, lsn as u32, header);
+        audit_all(&mut self.many, &image(&headers));
+        self.many.class("correct", 1 + OTHERS);
+        self.many.class("one byte changed", changed);
+        self.many.class("random", OTHERS);
+    }
+
+    /// An image with a blank stretch, before zeros or before any data.
+    fn stretch(&mut self, rng: &mut Rng, place: Place, data: bool) {
+        let blank = 1 + rng.below(PART);
+        let written = |rng: &mut Rng| {
+            let sectors = 1 + rng.below(PART);
+            (0..sectors).map(|_| any_written(rng)).collect::<Vec<_>>()
+        };
+        let before = if place == Place::Start { vec![] } else { written(rng) };
+        let behind = if place == Place::End { vec![] } else { written(rng) };
+        let mut image = image(&[&before[..], &vec![[0; 6]; blank], &behind].concat());
+        if data {
+            image.chunks_exact_mut(STORED).for_each(|sector| rng.fill(&mut sector[6..]));
         }
-        kind.class("correct", 1 + OTHERS);
-        kind.class("one byte changed", changed);
-        kind.class("random", OTHERS);
+        let kind = &mut self.stretches;
+        audit_all(kind, &image);
+        kind.class(place.class(), blank);
+        kind.class(if data { "blank before data" } else { "blank before zeros" }, blank);
+    }
+}
+
+/// Where a blank stretch lies in an image.
+#[derive(Clone, Copy, PartialEq)]
+enum Place {
+    Start,
+    Middle,
+    End,
+}
+
+const PLACES: [Place; 3] = [Place::Start, Place::Middle, Place::End];
+
+impl Place {
+    fn class(self) -> &'static str {
+        match self {
+            Place::Start => "blank at the start",
+            Place::Middle => "blank in the middle",
+            Place::End => "blank at the end",
+        }
     }
 }
 
@@ -45,19 +121,44 @@ fn random(rng: &mut Rng) -> Header {
     header
 }
 
-/// An image of format 2 whose sectors have these headers.
-fn put(image: &mut Vec<u8>, headers: &[Header]) {
-    image.resize(headers.len() * STORED, 0);
-    for (sector, header) in image.chunks_exact_mut(STORED).zip(headers) {
-        sector[..6].copy_from_slice(header);
+/// The header of a written sector: correct or damaged.
+fn any_written(rng: &mut Rng) -> Header {
+    let correct = any_correct(rng);
+    match rng.below(3) {
+        0 => header::damaged(rng, correct),
+        _ => correct,
     }
 }
 
-fn audit(kind: &mut Kind, image: &[u8], lsn: u32, header: Header) {
-    let sound = header::is_sound(header);
-    let expected = AuditAnswer { refusal: 0, sound: u8::from(sound) };
-    let audited = scarletbook::raw::audit(SectorFormat::Raw2064, image, lsn);
-    kind.record_case(&header, 0, audited, expected);
-    kind.class_if("sound", sound);
-    kind.class_if("unsound", !sound);
+/// An image of format 2 whose sectors have these headers.
+fn image(headers: &[Header]) -> Vec<u8> {
+    let mut image = vec![0; headers.len() * STORED];
+    for (sector, header) in image.chunks_exact_mut(STORED).zip(headers) {
+        sector[..6].copy_from_slice(header);
+    }
+    image
+}
+
+/// Audits every sector of an image of format 2.
+fn audit_all(kind: &mut Kind, image: &[u8]) {
+    for (lsn, sector) in image.chunks_exact(STORED).enumerate() {
+        let header: Header = sector[..6].try_into().expect("six bytes");
+        let audited = scarletbook::raw::audit(SectorFormat::Raw2064, image, lsn as u32);
+        let expected = expected(header);
+        kind.record_case(&header, 0, audited, expected);
+        count_verdict(kind, expected);
+    }
+}
+
+/// What is answered of a header that is there.
+pub fn expected(header: Header) -> AuditAnswer {
+    AuditAnswer { refusal: 0, verdict: header::verdict(header) as u8 }
+}
+
+/// The classes of the verdicts; none with a refusal.
+pub fn count_verdict(kind: &mut Kind, expected: AuditAnswer) {
+    let is = |verdict: Verdict| expected.verdict == verdict as u8;
+    kind.class_if("sound", is(Verdict::Sound));
+    kind.class_if("blank", is(Verdict::Blank));
+    kind.class_if("unsound", is(Verdict::Unsound));
 }

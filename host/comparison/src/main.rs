@@ -37,6 +37,7 @@ use extent::Extent;
 use fields::Fields;
 use generate::Rng;
 use generate::table;
+use headers::Headers;
 use numbers::Numbers;
 use options::{Mode, Options, USAGE};
 use sectors::Sectors;
@@ -55,7 +56,7 @@ fn all(options: &Options) -> Vec<Kind> {
     let mut extent = Extent::new();
     let mut sectors = Sectors::new();
     let mut numbers = Numbers::new();
-    let mut headers = headers::new();
+    let mut headers = Headers::new();
     for case in 0..options.cases {
         let mut rng = Rng::of_case(options.seed, case);
         let image = generate::image::any_image(&mut rng);
@@ -63,14 +64,15 @@ fn all(options: &Options) -> Vec<Kind> {
         sectors.cases(&mut rng, &image);
         numbers.cases(&mut rng);
     }
-    headers::cases(&mut headers, &mut Rng::new(options.seed), options.headers);
+    headers.cases(options.seed, options.headers);
     let (fields, strings, times) = texts(options);
     let Extent { sector_count, contains } = extent;
     let Sectors { read, compare, fingerprint, audit } = sectors;
     let Numbers { byte, be16, be32, product, digest } = numbers;
     let Strings { string_bytes, decode } = strings;
     let Fields { charset, language, fixed_bytes, fixed_text } = fields;
-    let sectors = [sector_count, contains, read, compare, fingerprint, audit, headers];
+    let Headers { many, stretches } = headers;
+    let sectors = [sector_count, contains, read, compare, fingerprint, audit, many, stretches];
     let numbers = [product, digest, byte, be16, be32];
     let texts = [string_bytes, charset, decode, fixed_bytes, fixed_text, language];
     let times = [times.frame_number, times.cap];

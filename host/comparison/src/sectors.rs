@@ -1,10 +1,10 @@
 //! Reading, comparing, fingerprints and the audit, over generated images.
 
 use crate::guard::Guarded;
+use crate::headers;
 use crate::rust::{self, Lent};
 use crate::tally::Kind;
 use generate::Rng;
-use generate::header;
 use generate::image::Image;
 use generate::question::{Place, Run, any_place, any_run};
 use scarletbook::raw::{AuditAnswer, Comparison, FingerprintAnswer};
@@ -64,7 +64,7 @@ impl Sectors {
             ),
             audit: Kind::new(
                 "audit",
-                &["refusal 1", "refusal 11", "refusal 8", "sound", "unsound"],
+                &["refusal 1", "refusal 11", "refusal 8", "sound", "blank", "unsound"],
             ),
         }
     }
@@ -134,8 +134,7 @@ impl Sectors {
         let kind = &mut self.audit;
         let refusal = expected.refusal;
         kind.record_case(&question(image, Run { lsn, count: 1 }, 0, 0), refusal, library, expected);
-        kind.class_if("sound", expected.sound == 1);
-        kind.class_if("unsound", refusal == 0 && expected.sound == 0);
+        headers::count_verdict(kind, expected);
     }
 }
 
@@ -201,7 +200,7 @@ fn expected_fingerprint(rust: &mut Option<Lent>, lsn: u32) -> FingerprintAnswer 
 }
 
 fn expected_audit(image: &Image, rust: &Option<Lent>, lsn: u32) -> AuditAnswer {
-    let refused = |refusal| AuditAnswer { refusal, sound: 0 };
+    let refused = |refusal| AuditAnswer { refusal, verdict: 0 };
     let Some(opened) = rust else { return refused(1) };
     if image.format != 2 {
         return refused(11);
@@ -211,8 +210,7 @@ fn expected_audit(image: &Image, rust: &Option<Lent>, lsn: u32) -> AuditAnswer {
     }
     let at = lsn as usize * 2064;
     let Some(header) = image.bytes.get(at..at + 6) else { return refused(rust::FAILED) };
-    let header = header.try_into().expect("six bytes");
-    AuditAnswer { refusal: 0, sound: u8::from(header::is_sound(header)) }
+    headers::expected(header.try_into().expect("six bytes"))
 }
 
 /// What the run holds, as it is, with a byte changed, a byte short or with bytes behind.

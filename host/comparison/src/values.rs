@@ -19,7 +19,7 @@ const FEW: [(&str, &[u64]); 29] = [
     ("comparison.equal", FLAG),
     ("fingerprint_answer.refusal", &[0, 1, 8]),
     ("audit_answer.refusal", &[0, 1, 8, 11]),
-    ("audit_answer.sound", FLAG),
+    ("audit_answer.verdict", &[0, 1, 2, 3]),
     ("decode_answer.refusal", &[0, 2, 8, 9, 10]),
     ("detect_answer.refusal", &[0, 4]),
     ("detect_answer.sector_format", &[0, 1, 2]),

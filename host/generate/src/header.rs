@@ -35,12 +35,31 @@ pub fn remainder(header: Header) -> [u8; 2] {
     [rest[4], rest[5]]
 }
 
-/// Whether a header is a multiple of the polynomial.
-pub fn is_sound(header: Header) -> bool {
+/// Whether a header is a multiple of the polynomial, as six zeros are too.
+pub fn is_multiple(header: Header) -> bool {
     remainder(header) == [0, 0]
 }
 
-/// The sound header of an ID: its IED is the remainder of the ID with two zero bytes behind.
+/// What an audit must answer, by its number.
+#[derive(Clone, Copy, Debug, PartialEq, Eq)]
+pub enum Verdict {
+    Sound = 1,
+    Blank = 2,
+    Unsound = 3,
+}
+
+/// Six zeros are blank; any other multiple is sound, and all else is unsound.
+pub fn verdict(header: Header) -> Verdict {
+    if header == [0; 6] {
+        Verdict::Blank
+    } else if is_multiple(header) {
+        Verdict::Sound
+    } else {
+        Verdict::Unsound
+    }
+}
+
+/// The header of an ID that is a multiple: its IED is the remainder of the ID with two zero bytes behind.
 pub fn correct(id: [u8; 4]) -> Header {
     let [a, b, c, d] = id;
     let [e, f] = remainder([a, b, c, d, 0, 0]);

@@ -1,5 +1,7 @@
 use crate::Rng;
-use crate::header::{Header, correct, damaged, is_sound, single_changes, times};
+use crate::header::{
+    Header, Verdict, correct, damaged, is_multiple, single_changes, times, verdict,
+};
 use crate::image::{CONTENTS, Image, any_image};
 use crate::layout::{DATA, layout};
 use crate::noise::{Pool, any_noise};
@@ -53,16 +55,16 @@ fn every_format_has_none_to_140_sectors_and_all_contents() {
 }
 
 #[test]
-fn images_have_sound_and_damaged_headers() {
-    let (mut sound, mut unsound) = (0, 0);
+fn images_have_sound_blank_and_unsound_headers() {
+    let mut verdicts = vec![];
     for image in images(1, 500).filter(|image| image.format == 2) {
-        for sector in image.bytes.chunks_exact(2064) {
-            let header: Header = sector[..6].try_into().unwrap();
-            sound += usize::from(is_sound(header) && header != [0; 6]);
-            unsound += usize::from(!is_sound(header));
-        }
+        let sectors = image.bytes.chunks_exact(2064);
+        verdicts.extend(sectors.map(|sector| verdict(sector[..6].try_into().unwrap())));
     }
-    assert!(sound > 100 && unsound > 100, "{sound} sound, {unsound} not");
+    for wanted in [Verdict::Sound, Verdict::Blank, Verdict::Unsound] {
+        let count = verdicts.iter().filter(|&&verdict| verdict == wanted).count();
+        assert!(count > 100, "{count} {wanted:?}");
+    }
 }
 
 #[test]
@@ -118,8 +120,15 @@ fn the_powers_of_alpha_come_back_after_255() {
 
 #[test]
 fn division_agrees_with_the_two_headers_of_the_document() {
-    assert!(is_sound([0, 0, 0, 1, 3, 2]));
-    assert!(!is_sound([0, 0, 0, 1, 2, 3]));
+    assert_eq!(verdict([0, 0, 0, 1, 3, 2]), Verdict::Sound);
+    assert_eq!(verdict([0, 0, 0, 1, 2, 3]), Verdict::Unsound);
+}
+
+#[test]
+fn six_zeros_are_blank_and_no_single_change_of_them() {
+    assert!(is_multiple([0; 6]));
+    assert_eq!(verdict([0; 6]), Verdict::Blank);
+    assert!(single_changes([0; 6]).all(|changed| verdict(changed) == Verdict::Unsound));
 }
 
 /// The value of the header's polynomial at a place.
@@ -128,22 +137,22 @@ fn value(header: Header, place: u8) -> u8 {
 }
 
 #[test]
-fn sound_headers_are_those_that_vanish_at_both_roots() {
+fn multiples_are_those_that_vanish_at_both_roots() {
     let mut rng = Rng::new(5);
     for _ in 0..2000 {
-        let sound = correct((rng.word() as u32).to_be_bytes());
-        assert!(is_sound(sound));
-        for header in [sound, damaged(&mut rng, sound)] {
-            assert_eq!(is_sound(header), value(header, 1) == 0 && value(header, 2) == 0);
+        let multiple = correct((rng.word() as u32).to_be_bytes());
+        assert!(is_multiple(multiple));
+        for header in [multiple, damaged(&mut rng, multiple)] {
+            assert_eq!(is_multiple(header), value(header, 1) == 0 && value(header, 2) == 0);
         }
     }
 }
 
 #[test]
-fn no_single_change_is_sound() {
+fn no_single_change_is_a_multiple() {
     let header = correct([0, 3, 1, 254]);
     assert_eq!(single_changes(header).count(), 6 * 255);
-    assert!(single_changes(header).all(|changed| !is_sound(changed)));
+    assert!(single_changes(header).all(|changed| !is_multiple(changed)));
 }
 
 #[test]

@@ -154,7 +154,7 @@ records! {
     "text_place" TextPlace { place }
     "comparison" Comparison { refusal, equal }
     "fingerprint_answer" FingerprintAnswer { refusal, digest }
-    "audit_answer" AuditAnswer { refusal, sound }
+    "audit_answer" AuditAnswer { refusal, verdict }
     "decode_answer" DecodeAnswer { refusal, len }
     "detect_answer" DetectAnswer { refusal, sector_format }
     "cap_answer" CapAnswer { start_frame, duration_frames, past_playtime }

@@ -2,7 +2,9 @@
 //! (`host/c/test`).
 
 use scarletbook::raw::*;
-use scarletbook::{AreaTextItem, DiscTextItem, Refusal, SectorFormat, TrackTextItem, WarningCode};
+use scarletbook::{
+    AreaTextItem, DiscTextItem, Header, Refusal, SectorFormat, TrackTextItem, WarningCode,
+};
 use std::fmt::Write;
 use std::process::ExitCode;
 
@@ -34,12 +36,13 @@ fn constants() -> Vec<(String, u32)> {
     ];
     let sizes = sizes.map(|(name, size)| (name.to_owned(), size as u32));
     let formats = SectorFormat::ALL.map(|format| (format!("{format:?}"), format.number()));
+    let headers = Header::ALL.map(|header| (format!("{header:?}"), header.number().into()));
     let refusals = Refusal::ALL.map(|refusal| (name_of(refusal), refusal.number().into()));
     let codes = WarningCode::ALL.map(|code| (code.code().to_owned(), code as u32));
     let disc = DiscTextItem::ALL.map(|item| (item.name().to_owned(), item.index()));
     let area = AreaTextItem::ALL.map(|item| (format!("area_{}", item.name()), item.index()));
     let track = TrackTextItem::ALL.map(|item| (format!("track_{}", item.name()), item.index()));
-    [&sizes[..], &formats, &refusals, &codes, &disc, &area, &track].concat()
+    [&sizes[..], &formats, &headers, &refusals, &codes, &disc, &area, &track].concat()
 }
 
 /// The constants under the names of C, then the words of every number of a byte.

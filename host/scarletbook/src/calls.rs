@@ -215,8 +215,8 @@ pub fn fingerprint(format: impl Into<u32>, image: &[u8], lsn: u32) -> Fingerprin
     unsafe { scarletbook_fingerprint(format.into(), image.as_ptr(), image.len(), lsn) }
 }
 
-/// Whether the header of sector `lsn` is sound (ECMA-267). Refused, in this order: 1 for a
-/// foreign format, 11 for format 0 or 1, 8 when the sector is not in the image.
+/// Whether the header of sector `lsn` is sound (ECMA-267), blank or unsound. Refused, in this
+/// order: 1 for a foreign format, 11 for format 0 or 1, 8 when the sector is not in the image.
 pub fn audit(format: impl Into<u32>, image: &[u8], lsn: u32) -> AuditAnswer {
     // SAFETY: the pointer and length are those of a slice.
     unsafe { scarletbook_audit(format.into(), image.as_ptr(), image.len(), lsn) }

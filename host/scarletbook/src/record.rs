@@ -1,5 +1,5 @@
-//! The records of the library, laid out as in C, with the names of aclater/scarletbook-rs, and the sizes of lent memory.
-//! Flags are bytes, 0 or 1.
+//! The records of the library, laid out as in C, with the names of aclater/scarletbook-rs, the sizes of lent memory, and the
+//! verdicts on headers. Flags are bytes, 0 or 1.
 
 use std::fmt::{self, Write};
 
@@ -34,6 +34,13 @@ pub const GENRES: usize = 4;
 /// The texts of a disc.
 pub const DISC_TEXTS: usize = 16;
 
+/// The verdict on a header that is a multiple of (x + 1)(x + α), and not blank.
+pub const SOUND: u8 = 1;
+/// The verdict on a header of six zero bytes.
+pub const BLANK: u8 = 2;
+/// The verdict on a header that is no multiple.
+pub const UNSOUND: u8 = 3;
+
 /// The answer of [`fingerprint`](crate::raw::fingerprint).
 #[repr(C)]
 #[derive(Clone, Copy, Debug, PartialEq, Eq)]
@@ -57,8 +64,8 @@ pub struct Comparison {
 #[derive(Clone, Copy, Debug, PartialEq, Eq)]
 pub struct AuditAnswer {
     pub refusal: u8,
-    /// 1 when the header is sound, else 0; 0 with a refusal.
-    pub sound: u8,
+    /// [`SOUND`], [`BLANK`] or [`UNSOUND`]; 0 with a refusal.
+    pub verdict: u8,
 }
 
 /// The answer of [`decode`](crate::raw::decode).

@@ -1,6 +1,7 @@
 //! The sectors of an image: formats, counts, fingerprints and headers.
 
 use crate::calls;
+use crate::record::{BLANK, SOUND, UNSOUND};
 use crate::refusal::Refusal;
 
 /// How the sectors of an image are stored.
@@ -65,21 +66,50 @@ pub fn fingerprint(format: impl Into<u32>, image: &[u8], lsn: u32) -> Result<u64
     Refusal::check(answer.refusal).map(|()| answer.digest)
 }
 
-/// Whether the header of a sector is sound (ECMA-267). Refused by 1 for a foreign format, by 11
-/// unless sectors have 2,064 bytes, by 8 if it is not in the image.
+/// What the header of a sector is (ECMA-267), by its six bytes alone.
+#[derive(Clone, Copy, Debug, PartialEq, Eq, Hash)]
+#[repr(u8)]
+pub enum Header {
+    /// A multiple of (x + 1)(x + α), and not blank.
+    Sound = SOUND,
+    /// Six zero bytes, as in unwritten stretches.
+    Blank = BLANK,
+    /// No multiple.
+    Unsound = UNSOUND,
+}
+
+impl Header {
+    /// Each, by number.
+    pub const ALL: [Header; 3] = [Header::Sound, Header::Blank, Header::Unsound];
+
+    /// The library's verdict for it.
+    pub fn number(self) -> u8 {
+        self as u8
+    }
+
+    /// That of a verdict; nothing for any other number.
+    pub fn of_number(number: u8) -> Option<Header> {
+        Header::ALL.into_iter().find(|header| header.number() == number)
+    }
+}
+
+/// What the header of a sector is: sound (ECMA-267), blank or unsound. Refused by 1 for a foreign
+/// format, by 11 unless sectors have 2,064 bytes, by 8 if it is not in the image.
 ///
 /// ```
-/// use scarletbook::{SectorFormat, audit};
+/// use scarletbook::{Header, SectorFormat, audit};
 ///
-/// let mut image = vec![0; 2064];
+/// let mut image = vec![0; 3 * 2064];
 /// image[..6].copy_from_slice(&[0, 0, 0, 1, 3, 2]);
-/// assert_eq!(audit(SectorFormat::Raw2064, &image, 0), Ok(true));
-/// image[5] = 3;
-/// assert_eq!(audit(SectorFormat::Raw2064, &image, 0), Ok(false));
+/// image[2 * 2064..][..6].copy_from_slice(&[0, 0, 0, 1, 2, 3]);
+/// assert_eq!(audit(SectorFormat::Raw2064, &image, 0), Ok(Header::Sound));
+/// assert_eq!(audit(SectorFormat::Raw2064, &image, 1), Ok(Header::Blank));
+/// assert_eq!(audit(SectorFormat::Raw2064, &image, 2), Ok(Header::Unsound));
 /// ```
-pub fn audit(format: impl Into<u32>, image: &[u8], lsn: u32) -> Result<bool, Refusal> {
+pub fn audit(format: impl Into<u32>, image: &[u8], lsn: u32) -> Result<Header, Refusal> {
     let answer = calls::audit(format, image, lsn);
-    Refusal::check(answer.refusal).map(|()| answer.sound == 1)
+    Refusal::check(answer.refusal)?;
+    Ok(Header::of_number(answer.verdict).expect("a verdict of the library"))
 }
 
 /// FNV-1a, 64 bits, of any bytes.

@@ -6,7 +6,7 @@ mod small_disc;
 
 use scarletbook::record::{self, Chain, Lsn, SECTOR_SIZE, Timecode};
 use scarletbook::{
-    AreaTextItem, Disc, DiscTextItem, Items, Memory, Refusal, Refused, SectorFormat, Table,
+    AreaTextItem, Disc, DiscTextItem, Header, Items, Memory, Refusal, Refused, SectorFormat, Table,
     TextItem, TrackTextItem, Warning, WarningCode,
 };
 use small_disc::{area_table, plain, put, put_in, stored};
@@ -375,10 +375,27 @@ fn fingerprints_and_headers() {
     assert_eq!(fingerprint, Ok(scarletbook::digest(sector)));
     assert_eq!(scarletbook::fingerprint(0u32, &image, 570), Err(Refusal::NoSuchEntry));
     assert_eq!(scarletbook::fingerprint(7u32, &image, 0), Err(Refusal::ForeignFormat));
-    assert_eq!(scarletbook::audit(SectorFormat::Raw2064, &raw, 0), Ok(true));
     assert_eq!(scarletbook::audit(SectorFormat::Raw2064, &raw, 570), Err(Refusal::NoSuchEntry));
     assert_eq!(scarletbook::audit(SectorFormat::Raw2054, &raw, 0), Err(Refusal::NoHeader));
     assert_eq!(scarletbook::audit(3u32, &raw, 0), Err(Refusal::ForeignFormat));
+}
+
+#[test]
+fn a_header_is_sound_blank_or_unsound() {
+    let mut raw = stored(SectorFormat::Raw2064, &plain());
+    let master = MASTER * 2064;
+    for (header, expected) in [
+        ([0, 0, 0, 1, 3, 2], Header::Sound),
+        ([0, 0, 0, 0, 0, 0], Header::Blank),
+        ([0, 0, 0, 1, 2, 3], Header::Unsound),
+    ] {
+        put(&mut raw, master, &header);
+        assert_eq!(scarletbook::audit(SectorFormat::Raw2064, &raw, 510), Ok(expected));
+    }
+    assert_eq!(Header::ALL.map(Header::number), [1, 2, 3]);
+    let headers = [0, 1, 2, 3, 4, 255].map(Header::of_number);
+    let [sound, blank, unsound] = Header::ALL.map(Some);
+    assert_eq!(headers, [None, sound, blank, unsound, None, None]);
 }
 
 /// Asks everything that there is to ask of a disc, and counts the answers.

@@ -51,13 +51,40 @@ fn digest_gives_the_published_vectors() {
     assert_eq!(digest(b"foobar"), 0x8594_4171_f739_67e8);
 }
 
+/// The verdict on a header before data of one byte.
+fn verdict(header: [u8; 6], data: u8) -> u8 {
+    let mut image = [data; 2064];
+    image[..6].copy_from_slice(&header);
+    let AuditAnswer { refusal, verdict } = audit(SectorFormat::Raw2064, &image, 0);
+    assert_eq!(refusal, 0);
+    verdict
+}
+
 #[test]
 fn the_two_headers_of_the_document() {
-    let mut image = [0; 2 * 2064];
-    image[..6].copy_from_slice(&[0, 0, 0, 1, 3, 2]);
-    image[2064..2070].copy_from_slice(&[0, 0, 0, 1, 2, 3]);
-    assert_eq!(audit(SectorFormat::Raw2064, &image, 0), AuditAnswer { refusal: 0, sound: 1 });
-    assert_eq!(audit(SectorFormat::Raw2064, &image, 1), AuditAnswer { refusal: 0, sound: 0 });
+    assert_eq!(verdict([0, 0, 0, 1, 3, 2], 0), SOUND);
+    assert_eq!(verdict([0, 0, 0, 1, 2, 3], 0), UNSOUND);
+}
+
+#[test]
+fn six_zeros_alone_are_blank_whatever_the_data_are() {
+    assert_eq!([0, 1, 255].map(|data| verdict([0; 6], data)), [BLANK; 3]);
+    for (at, value) in (0..6).flat_map(|at| (1..=255).map(move |value| (at, value))) {
+        let mut header = [0; 6];
+        header[at] = value;
+        assert_eq!(verdict(header, 0), UNSOUND, "{header:?}");
+    }
+}
+
+#[test]
+fn a_refused_audit_has_no_verdict() {
+    let image = [0; 2064];
+    let refused = |refusal: Refusal| AuditAnswer { refusal: refusal.number(), verdict: 0 };
+    assert_eq!(audit(3u32, &image, 0), refused(Refusal::ForeignFormat));
+    assert_eq!(audit(SectorFormat::Plain, &image, 0), refused(Refusal::NoHeader));
+    assert_eq!(audit(SectorFormat::Raw2054, &image, 1), refused(Refusal::NoHeader));
+    assert_eq!(audit(SectorFormat::Raw2064, &image, 1), refused(Refusal::NoSuchEntry));
+    assert_eq!(audit(SectorFormat::Raw2064, &image[1..], 0), refused(Refusal::NoSuchEntry));
 }
 
 #[test]

@@ -26,7 +26,8 @@ const VERSION: &str = concat!("tables ", env!("CARGO_PKG_VERSION"), "\n");
 /// What was found.
 enum Answer {
     Accepted,
-    Unsound,
+    /// Some header is blank or unsound.
+    NotSound,
     Refused(Refusal),
     /// No format was given or found, and none is taken instead.
     NoFormat(Refusal),
@@ -75,7 +76,7 @@ impl Answer {
     fn tell(&self, path: &Path) {
         let name = name(path);
         match self {
-            Answer::Accepted | Answer::Unsound => {}
+            Answer::Accepted | Answer::NotSound => {}
             Answer::Refused(refusal) => write_error(format_args!("{name}: {refusal}\n")),
             Answer::NoFormat(refusal) => {
                 let advice = "no format is found in it; --format 2 reads it all the same";
@@ -87,7 +88,7 @@ impl Answer {
     fn status(&self) -> u8 {
         match self {
             Answer::Accepted => 0,
-            Answer::Unsound | Answer::Refused(_) | Answer::NoFormat(_) => 1,
+            Answer::NotSound | Answer::Refused(_) | Answer::NoFormat(_) => 1,
         }
     }
 }
@@ -148,8 +149,8 @@ fn each_sector(
 
 fn audit(sectors: &Sectors, report: &mut StandardReport) -> io::Result<Answer> {
     Ok(match sectors.audit(report)? {
-        Ok(audited) if audited.unsound > 0 => Answer::Unsound,
-        Ok(_) => Answer::Accepted,
+        Ok(audited) if audited.all_sound() => Answer::Accepted,
+        Ok(_) => Answer::NotSound,
         Err(refusal) => Answer::Refused(refusal),
     })
 }

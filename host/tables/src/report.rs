@@ -105,7 +105,9 @@ pub fn write_error(text: Arguments) {
 #[cfg(test)]
 mod tests {
     use super::*;
+    use crate::sectors::Sectors;
     use std::cell::RefCell;
+    use std::thread::sleep;
 
     /// A terminal that several write to.
     struct Terminal<'a>(&'a RefCell<String>);
@@ -121,31 +123,56 @@ mod tests {
         }
     }
 
-    fn shown(shared: bool) -> (String, String) {
+    type TerminalReport<'a> = Report<BufWriter<Terminal<'a>>, Terminal<'a>>;
+
+    /// What a report shows whose percentage comes at once, on one terminal or on two.
+    fn shown(
+        shared: bool,
+        tell: impl Fn(&mut TerminalReport) -> io::Result<()>,
+    ) -> (String, String) {
         let (lines, errors) = (RefCell::default(), RefCell::default());
         let out = BufWriter::new(Terminal(&lines));
         let error = Terminal(if shared { &lines } else { &errors });
         let progress = Progress { error, next: Instant::now(), shown: false };
         let mut report = Report { out, progress: Some(progress), shared };
-        report.line(format_args!("first")).expect("a terminal takes it");
-        report.done(1, 3).expect("a terminal takes it");
-        // It is too early for this one.
-        report.done(2, 3).expect("a terminal takes it");
-        report.line(format_args!("second")).expect("a terminal takes it");
-        report.line(format_args!("third")).expect("a terminal takes it");
-        report.end().expect("a terminal takes it");
+        tell(&mut report).and_then(|()| report.end()).expect("a terminal takes it");
         (lines.into_inner(), errors.into_inner())
+    }
+
+    fn three_lines(report: &mut TerminalReport) -> io::Result<()> {
+        report.line(format_args!("first"))?;
+        report.done(1, 3)?;
+        // It is too early for this one.
+        report.done(2, 3)?;
+        report.line(format_args!("second"))?;
+        report.line(format_args!("third"))
+    }
+
+    /// 9,000 blank headers, in three steps; after the first there is time for a percentage.
+    fn blank_headers(report: &mut TerminalReport) -> io::Result<()> {
+        let image = vec![0; 9000 * 2064];
+        let at_step = |done, _| sleep(if done == 0 { PAUSE } else { Duration::ZERO });
+        let sectors = Sectors { format: 2, image: &image, at_step: &at_step };
+        sectors.audit(report).map(|audited| assert_eq!(audited.map(|all| all.blank), Ok(9000)))
     }
 
     #[test]
     fn lines_and_the_percentage_on_one_terminal_do_not_mix() {
         let lines = "first\n\r 33 %\r\x1b[Ksecond\nthird\n".to_owned();
-        assert_eq!(shown(true), (lines, String::new()));
+        assert_eq!(shown(true, three_lines), (lines, String::new()));
     }
 
     #[test]
     fn the_percentage_is_cleared_in_the_end() {
         let lines = "first\nsecond\nthird\n".to_owned();
-        assert_eq!(shown(false), (lines, "\r 33 %\r\x1b[K".to_owned()));
+        assert_eq!(shown(false, three_lines), (lines, "\r 33 %\r\x1b[K".to_owned()));
+    }
+
+    #[test]
+    fn a_run_of_blank_headers_and_the_percentage_do_not_mix() {
+        let lines = "0-8999: blank headers\n9000 headers: 0 sound, 9000 blank, 0 unsound\n";
+        let percentages = "\r  0 %\r 45 %\r\x1b[K";
+        assert_eq!(shown(true, blank_headers), (format!("{percentages}{lines}"), String::new()));
+        assert_eq!(shown(false, blank_headers), (lines.to_owned(), percentages.to_owned()));
     }
 }

@@ -2,7 +2,8 @@
 
 use crate::report::Report;
 use scarletbook::raw::sector_count;
-use scarletbook::{Refusal, audit, fingerprint};
+use scarletbook::{Header, Refusal, audit, fingerprint};
+use std::fmt;
 use std::io::{self, Write};
 
 /// The sectors of a step.
@@ -16,15 +17,89 @@ pub struct Sectors<'a> {
     pub at_step: &'a dyn Fn(usize, usize),
 }
 
-/// How many headers were audited, and how many of them are not sound.
+/// How many headers are sound, blank and unsound.
 #[derive(Clone, Copy, Debug, Default, PartialEq, Eq)]
 pub struct Audited {
-    pub headers: usize,
+    pub sound: usize,
+    pub blank: usize,
     pub unsound: usize,
 }
 
+impl Audited {
+    /// Whether no header is blank or unsound.
+    pub fn all_sound(&self) -> bool {
+        self.blank == 0 && self.unsound == 0
+    }
+}
+
+impl fmt::Display for Audited {
+    fn fmt(&self, f: &mut fmt::Formatter<'_>) -> fmt::Result {
+        let Audited { sound, blank, unsound } = self;
+        let headers = sound + blank + unsound;
+        write!(f, "{headers} headers: {sound} sound, {blank} blank, {unsound} unsound")
+    }
+}
+
+/// The first and the last address of a run of blank headers.
+#[derive(Clone, Copy)]
+struct Run {
+    first: u32,
+    last: u32,
+}
+
+impl fmt::Display for Run {
+    fn fmt(&self, f: &mut fmt::Formatter<'_>) -> fmt::Result {
+        let Run { first, last } = self;
+        if first == last {
+            return write!(f, "{first}: blank header");
+        }
+        write!(f, "{first}-{last}: blank headers")
+    }
+}
+
+/// An audit on its way through the addresses.
+#[derive(Default)]
+struct Audit {
+    audited: Audited,
+    /// The blank headers right before the next address.
+    run: Option<Run>,
+}
+
+impl Audit {
+    fn meet<W: Write, E: Write>(
+        &mut self,
+        report: &mut Report<W, E>,
+        lsn: u32,
+        header: Header,
+    ) -> io::Result<()> {
+        match header {
+            Header::Blank => {
+                self.audited.blank += 1;
+                self.run.get_or_insert(Run { first: lsn, last: lsn }).last = lsn;
+                Ok(())
+            }
+            Header::Sound => {
+                self.audited.sound += 1;
+                self.end_run(report)
+            }
+            Header::Unsound => {
+                self.audited.unsound += 1;
+                self.end_run(report)?;
+                report.line(format_args!("{lsn}: unsound header"))
+            }
+        }
+    }
+
+    fn end_run<W: Write, E: Write>(&mut self, report: &mut Report<W, E>) -> io::Result<()> {
+        match self.run.take() {
+            Some(run) => report.line(format_args!("{run}")),
+            None => Ok(()),
+        }
+    }
+}
+
 impl Sectors<'_> {
-    /// A line for each header that is not sound, and one with the counts.
+    /// A line for each unsound header and for each run of blank ones, and one with the counts.
     pub fn audit(
         &self,
         report: &mut Report<impl Write, impl Write>,
@@ -32,18 +107,15 @@ impl Sectors<'_> {
         if let Err(refusal) = unless_empty(audit(self.format, self.image, 0)) {
             return Ok(Err(refusal));
         }
-        let mut audited = Audited::default();
+        let mut so_far = Audit::default();
         self.each(report, |report, lsn| {
-            audited.headers += 1;
-            if audit(self.format, self.image, lsn) == Ok(true) {
-                return Ok(());
-            }
-            audited.unsound += 1;
-            report.line(format_args!("{lsn}: unsound header"))
+            // No sector of the image is refused now.
+            let header = audit(self.format, self.image, lsn).unwrap_or(Header::Unsound);
+            so_far.meet(report, lsn, header)
         })?;
-        let Audited { headers, unsound } = audited;
-        report.line(format_args!("{headers} headers, {unsound} unsound"))?;
-        Ok(Ok(audited))
+        so_far.end_run(report)?;
+        report.line(format_args!("{}", so_far.audited))?;
+        Ok(Ok(so_far.audited))
     }
 
     /// A line for each sector: its address and its fingerprint.

@@ -180,7 +180,7 @@ fn an_empty_file() {
     assert_eq!(run(&["--format", "0", image]), ran(1, "", &cut));
     assert_eq!(run(&["--dump", image]), ran(1, "refused 3\n", &cut));
     let audited = run(&["audit", "--format", "2", image]);
-    assert_eq!(audited, ran(0, "0 headers, 0 unsound\n", ""));
+    assert_eq!(audited, ran(0, "0 headers: 0 sound, 0 blank, 0 unsound\n", ""));
     let refused = ran(1, "", &scratch.refused("11: no header"));
     assert_eq!(run(&["audit", "--format", "0", image]), refused);
     assert_eq!(run(&["fingerprints", "--format", "0", image]), ran(0, "", ""));
@@ -206,7 +206,8 @@ fn an_image_in_which_no_format_is_found_is_read_as_format_0() {
             assert_eq!(run(&[word, image]), ran(1, "", &error));
         }
         let audited = run(&["audit", "--format", "2", image]);
-        assert_eq!(audited, ran(0, "515 headers, 0 unsound\n", ""));
+        let lines = "0-514: blank headers\n515 headers: 0 sound, 515 blank, 0 unsound\n";
+        assert_eq!(audited, ran(1, lines, ""));
         let printed = run(&["fingerprints", "--format", "2", image]);
         assert_eq!((printed.status, printed.out.lines().count()), (Some(0), 515));
     }

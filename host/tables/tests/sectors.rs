@@ -2,32 +2,108 @@
 
 mod common;
 
-use common::{Ran, SECTOR, SOUND, Scratch, UNSOUND, command, ran, run, stored};
+use common::{BLANK, Ran, SECTOR, SOUND, Scratch, UNSOUND, command, ran, run, stored};
 use std::fs::File;
 use std::io::{BufRead, BufReader, Read};
 use std::process::{Child, Command, Output, Stdio};
+use std::sync::atomic::{AtomicUsize, Ordering};
 use tables::sample;
 
-/// An image of format 2: so many sectors of zeros, each header sound but some.
-fn headers(sectors: usize, unsound: &[usize]) -> Vec<u8> {
-    let mut image = stored(2, &vec![0; sectors * SECTOR], SOUND);
-    for lsn in unsound {
-        image[lsn * 2064..][..6].copy_from_slice(&UNSOUND);
+/// An image of format 2: a sector for each letter, its header sound, blank or unsound by it, its data all of one byte.
+fn headers(letters: &str, data: u8) -> Vec<u8> {
+    let sectors = letters.chars().flat_map(|letter| {
+        let header = match letter {
+            's' => SOUND,
+            'b' => BLANK,
+            'u' => UNSOUND,
+            _ => unreachable!("{letter} is no header"),
+        };
+        stored(2, &[data; SECTOR], header)
+    });
+    sectors.collect()
+}
+
+fn audit(image: &[u8]) -> Ran {
+    static FILES: AtomicUsize = AtomicUsize::new(0);
+    let file = FILES.fetch_add(1, Ordering::Relaxed);
+    let scratch = Scratch::new(&format!("audited{file}.raw"), image);
+    run(&["audit", "--format", "2", scratch.name()])
+}
+
+/// Audits the headers of these letters, before zeros and before other data.
+fn check_audit(letters: &str, status: i32, lines: &[&str]) {
+    let lines: String = lines.iter().map(|line| format!("{line}\n")).collect();
+    for data in [0, 7] {
+        let audited = audit(&headers(letters, data));
+        assert_eq!(audited, ran(status, &lines, ""), "{letters}");
     }
-    image
 }
 
 #[test]
 fn every_unsound_header_has_a_line() {
-    let sound = Scratch::new("sound.raw", &headers(5, &[]));
-    let audit = |scratch: &Scratch| run(&["audit", "--format", "2", scratch.name()]);
-    assert_eq!(audit(&sound), ran(0, "5 headers, 0 unsound\n", ""));
-    let some = Scratch::new("some.raw", &headers(5, &[0, 3]));
-    let lines = "0: unsound header\n3: unsound header\n5 headers, 2 unsound\n";
-    assert_eq!(audit(&some), ran(1, lines, ""));
-    // The last sector is not whole.
-    let cut = Scratch::new("cut.raw", &headers(5, &[4])[..5 * 2064 - 1]);
-    assert_eq!(audit(&cut), ran(0, "4 headers, 0 unsound\n", ""));
+    check_audit("sssss", 0, &["5 headers: 5 sound, 0 blank, 0 unsound"]);
+    let last = "5 headers: 3 sound, 0 blank, 2 unsound";
+    check_audit("ussus", 1, &["0: unsound header", "3: unsound header", last]);
+    let last = "2 headers: 0 sound, 0 blank, 2 unsound";
+    check_audit("uu", 1, &["0: unsound header", "1: unsound header", last]);
+}
+
+#[test]
+fn every_run_of_blank_headers_has_a_line() {
+    // At the start, in the middle, at the end.
+    check_audit("bbss", 1, &["0-1: blank headers", "4 headers: 2 sound, 2 blank, 0 unsound"]);
+    check_audit("sbbbs", 1, &["1-3: blank headers", "5 headers: 2 sound, 3 blank, 0 unsound"]);
+    check_audit("ssbb", 1, &["2-3: blank headers", "4 headers: 2 sound, 2 blank, 0 unsound"]);
+    // Of one.
+    check_audit("bss", 1, &["0: blank header", "3 headers: 2 sound, 1 blank, 0 unsound"]);
+    check_audit("sbs", 1, &["1: blank header", "3 headers: 2 sound, 1 blank, 0 unsound"]);
+    check_audit("ssb", 1, &["2: blank header", "3 headers: 2 sound, 1 blank, 0 unsound"]);
+    // None but blank ones.
+    check_audit("b", 1, &["0: blank header", "1 headers: 0 sound, 1 blank, 0 unsound"]);
+    check_audit("bbb", 1, &["0-2: blank headers", "3 headers: 0 sound, 3 blank, 0 unsound"]);
+}
+
+#[test]
+fn a_sound_or_an_unsound_header_ends_a_run() {
+    let last = "5 headers: 1 sound, 4 blank, 0 unsound";
+    check_audit("bbsbb", 1, &["0-1: blank headers", "3-4: blank headers", last]);
+    let lines = ["0-1: blank headers", "2: unsound header", "3-4: blank headers"];
+    let last = "5 headers: 0 sound, 4 blank, 1 unsound";
+    check_audit("bbubb", 1, &[&lines[..], &[last]].concat());
+    let lines = ["0: unsound header", "2-4: blank headers", "5: unsound header", "7: blank header"];
+    let last = "8 headers: 2 sound, 4 blank, 2 unsound";
+    check_audit("usbbbusb", 1, &[&lines[..], &[last]].concat());
+    let lines = ["0: blank header", "1: unsound header", "2: blank header"];
+    check_audit("bub", 1, &[&lines[..], &["3 headers: 0 sound, 2 blank, 1 unsound"]].concat());
+}
+
+#[test]
+fn a_run_goes_on_from_step_to_step() {
+    let all = audit(&vec![0; 9000 * 2064]);
+    let lines = "0-8999: blank headers\n9000 headers: 0 sound, 9000 blank, 0 unsound\n";
+    assert_eq!(all, ran(1, lines, ""));
+    // A step has 4,096 sectors: to its end, over it, from it on, all of it.
+    for (sound, blank) in [(4000, 96), (4000, 97), (4095, 2), (4096, 2), (4096, 4096)] {
+        let letters = "s".repeat(sound) + &"b".repeat(blank) + "u";
+        let end = sound + blank;
+        let lines = [
+            format!("{sound}-{}: blank headers", end - 1),
+            format!("{end}: unsound header"),
+            format!("{} headers: {sound} sound, {blank} blank, 1 unsound", end + 1),
+        ];
+        check_audit(&letters, 1, &lines.each_ref().map(String::as_str));
+    }
+}
+
+#[test]
+fn a_last_sector_that_is_not_whole_is_not_audited() {
+    let cut = |letters| audit(&headers(letters, 0)[..letters.len() * 2064 - 1]);
+    let four = "4 headers: 4 sound, 0 blank, 0 unsound\n";
+    assert_eq!(cut("ssssu"), ran(0, four, ""));
+    assert_eq!(cut("ssssb"), ran(0, four, ""));
+    let blank = "2: blank header\n3 headers: 2 sound, 1 blank, 0 unsound\n";
+    assert_eq!(cut("ssbb"), ran(1, blank, ""));
+    assert_eq!(cut("b"), ran(0, "0 headers: 0 sound, 0 blank, 0 unsound\n", ""));
 }
 
 #[test]
@@ -36,7 +112,11 @@ fn the_audit_finds_out_the_format_and_refuses_those_without_headers() {
     let audited = run(&["audit", raw.name()]);
     assert_eq!((audited.status, &*audited.error), (Some(1), ""));
     assert!(audited.out.starts_with("0: unsound header\n1: unsound header\n"));
-    assert!(audited.out.ends_with("\n563: unsound header\n564 headers, 564 unsound\n"));
+    assert!(
+        audited
+            .out
+            .ends_with("\n563: unsound header\n564 headers: 0 sound, 0 blank, 564 unsound\n")
+    );
     let plain = Scratch::new("disc.iso", &sample::image());
     let refused = ran(1, "", &plain.refused("11: no header"));
     assert_eq!(run(&["audit", plain.name()]), refused);
@@ -143,8 +223,21 @@ fn progress_is_shown_on_a_terminal_and_cleared() {
 
 #[test]
 fn a_few_headers_are_audited_on_a_terminal_without_progress() {
-    let some = Scratch::new("terminal.raw", &headers(5, &[2]));
+    let some = Scratch::new("terminal.raw", &headers("sbbus", 0));
     if let Some(shown) = on_terminal(&format!("audit --format 2 '{}'", some.name())) {
-        assert_eq!(shown, "2: unsound header\r\n5 headers, 1 unsound\r\n");
+        let lines =
+            ["1-2: blank headers", "3: unsound header", "5 headers: 2 sound, 2 blank, 1 unsound"];
+        assert_eq!(shown, lines.map(|line| format!("{line}\r\n")).concat());
+    }
+}
+
+#[test]
+fn a_long_run_of_blank_headers_is_a_clean_line_on_a_terminal() {
+    let large = Scratch::sparse("stretch.raw", &UNSOUND, 200_000 * 2064);
+    if let Some(shown) = on_terminal(&format!("audit --format 2 '{}'", large.name())) {
+        let lines = shown.lines().map(|line| line.rsplit(CLEARED).next().unwrap_or(line));
+        let counts = "200000 headers: 0 sound, 199999 blank, 1 unsound";
+        let expected = ["0: unsound header", "1-199999: blank headers", counts];
+        assert!(lines.eq(expected), "{shown:?}");
     }
 }

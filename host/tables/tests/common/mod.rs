@@ -9,8 +9,9 @@ use std::path::{Path, PathBuf};
 use std::process::{Command, Output};
 
 pub const SECTOR: usize = 2048;
-/// A header that is sound, and one that is not.
+/// A header that is sound, one that is blank, and one that is neither.
 pub const SOUND: [u8; 6] = [0, 0, 0, 1, 3, 2];
+pub const BLANK: [u8; 6] = [0; 6];
 pub const UNSOUND: [u8; 6] = [0, 0, 0, 1, 2, 3];
 
 /// A file or folder that is removed when it is dropped.
