@@ -1,5 +1,6 @@
 // What C and Rust link: the functions of the layers below, under names that begin `scarletbook_`. Each hands an answer on.
 ghost use mathlib.Core.Path.{_≡_};
+ghost use mathlib.Core.Logic.{_↔_};
 ghost use mathlib.Core.List.{[], _∷_};
 ghost use Prim.Native.Nat.{_*_, _%_, _^_};
 ghost use lib.ListN.{length};
@@ -13,7 +14,8 @@ ghost use Rattle.area.specs.Timecode.{frameNumber};
 ghost use Rattle.disc.specs.Detect.{detected};
 ghost use Rattle.disc.specs.Disc.{readDisc};
 ghost use Rattle.disc.specs.TextDecode.{discTextIn, areaTextOn, trackTextAt};
-ghost use Rattle.sectors.specs.Audit.{Means, soundVerdict, blankVerdict, unsoundVerdict, auditOf};
+ghost use Rattle.sectors.specs.Audit.{HeaderIn, soundVerdict, blankVerdict, unsoundVerdict, auditOf};
+ghost use Rattle.sectors.specs.Header.{Sound, Blank, Unsound};
 ghost use Rattle.sectors.specs.Fnv.{digestOf, fingerprintOf};
 ghost use Rattle.sectors.specs.Number.{beAt};
 ghost use Rattle.sectors.specs.Run.{readRefusal, readInto, comparisonOf};
@@ -141,7 +143,9 @@ pub extern "C" fn scarletbook_fingerprint(format: u32, image: &[u8], lsn: Lsn) -
 #[no_mangle]
 pub extern "C" fn scarletbook_audit(format: u32, image: &[u8], lsn: Lsn) -> AuditAnswer
     ensures answer { λ r. ⌜ r ≡ auditOf format (now (image .entry)) (lsn .0) ⌝ }
-    ensures means { λ r. ⌜ Means soundVerdict blankVerdict unsoundVerdict format (now (image .entry)) (lsn .0) (r .verdict) ⌝ }
+    ensures sound { λ r. ⌜ (r .verdict ≡ soundVerdict) ↔ HeaderIn Sound format (now (image .entry)) (lsn .0) ⌝ }
+    ensures blank { λ r. ⌜ (r .verdict ≡ blankVerdict) ↔ HeaderIn Blank format (now (image .entry)) (lsn .0) ⌝ }
+    ensures unsound { λ r. ⌜ (r .verdict ≡ unsoundVerdict) ↔ HeaderIn Unsound format (now (image .entry)) (lsn .0) ⌝ }
 {
     let answer = sectors::header::audit(format, image, lsn);
     sectors::header::audit_answer(answer)

@@ -3,6 +3,7 @@
 use mathlib.Core.Path.{_≡_, sym, ap, _∙_}
 use mathlib.Core.Bool.{Bool, true, false, not, and-false}
 use mathlib.Core.List.{List}
+use mathlib.Core.Logic.{_↔_}
 use Prim.Native.Nat.{ℕ, _+_, _*_, _≤_}
 use native.Mathlib.Nat.{add-zero}
 use native.Mathlib.Omega.{arith}
@@ -15,8 +16,8 @@ use Rattle.sectors.specs.FillLaws.{part-length}
 use Rattle.sectors.specs.Format.{foreign, layoutOf, storedSize}
 use Rattle.sectors.specs.Sector.{readable}
 use Rattle.sectors.specs.SectorLaws.{stored-inside}
-use Rattle.sectors.specs.Header.{isMultiple, isBlank, isSound}
-use Rattle.sectors.specs.Audit.{Means, answerOf, verdictOf, auditOf, headerFormat, headerSize, headerAt}
+use Rattle.sectors.specs.Header.{Sound, Blank, Unsound, isMultiple, isBlank, isSound}
+use Rattle.sectors.specs.Audit.{HeaderIn, answerOf, verdictOf, auditOf, headerFormat, headerSize, headerAt}
 use Rattle.sectors.specs.AuditLaws.{result-means}
 use Rattle.sectors.specs.declared.header.AuditResult.{AuditResult}
 use Rattle.sectors.specs.declared.header.AuditResult.the-variants as audit
@@ -25,10 +26,15 @@ module _ (format : ℕ) (image : List ℕ) (lsn : ℕ) where
   abbrev Answers : AuditResult → Type 0
   Answers r = answerOf r ≡ auditOf format image lsn
 
+  abbrev Exactly : AuditResult → AuditResult → (List ℕ → Type 0) → Type 0
+  Exactly r c P = r ≡ c ↔ HeaderIn P format image lsn
+
   -- what the audit's contract says of an answer
   pub right : ((i : ℕ) → Fits w8 (getD image i 0)) → (r : AuditResult) → Answers r
-      → Answers r × Means audit.Sound audit.Blank audit.Unsound format image lsn r
-  right bytes r e = (e, result-means format image lsn (λ i. omega (arith, bytes i)) r e)
+      → Answers r × (Exactly r audit.Sound Sound × (Exactly r audit.Blank Blank × Exactly r audit.Unsound Unsound))
+  right bytes r e =
+      let means = result-means format image lsn (λ i. omega (arith, bytes i)) r e in
+      (e, (means .if-sound, (means .if-blank, means .if-unsound)))
 
   module _ {test : Bool} (known : test ≡ foreign format) where
     pub foreign-answer : test ≡ true → Answers audit.ForeignFormat

@@ -1,6 +1,5 @@
 -- The header audit (01, "Header"; "audit 1, 11, 8"; 02, item 2). Assumes nothing.
 use mathlib.Core.Path.{_≡_}
-use mathlib.Core.Logic.{_↔_}
 use Prim.Native.Nat.{ℕ, _+_, _*_}
 use mathlib.Core.Bool.{true, cond}
 use mathlib.Core.List.{List}
@@ -10,7 +9,7 @@ use Rattle.sectors.specs.Fill.{part}
 use Rattle.sectors.specs.Refusal.{foreignFormat, noSuchEntry, noHeader}
 use Rattle.sectors.specs.Format.{foreign, storedSize}
 use Rattle.sectors.specs.Sector.{readable}
-use Rattle.sectors.specs.Header.{Sound, Blank, Unsound, isSound, isBlank}
+use Rattle.sectors.specs.Header.{isSound, isBlank}
 use Rattle.sectors.specs.declared.header.AuditResult.{AuditResult}
 use Rattle.sectors.specs.declared.header.AuditResult.the-variants as audit
 use Rattle.sectors.specs.declared.header.AuditAnswer.{AuditAnswer}
@@ -69,9 +68,3 @@ pub record HeaderIn (P : List ℕ → Type 0) (format : ℕ) (image : List ℕ) 
   pub has-header : format ≡ headerFormat
   pub is-there : readable headerFormat (length image) lsn 1 ≡ true
   pub its-header : P (headerAt image lsn)
-
--- What each of the three answers means, both ways; they are cases of an enum, or numbers.
-pub record Means {A : Type 0} (sound blank unsound : A) (format : ℕ) (image : List ℕ) (lsn : ℕ) (answer : A) : Type 0 where
-  pub if-sound : (answer ≡ sound) ↔ HeaderIn Sound format image lsn
-  pub if-blank : (answer ≡ blank) ↔ HeaderIn Blank format image lsn
-  pub if-unsound : (answer ≡ unsound) ↔ HeaderIn Unsound format image lsn

@@ -16,7 +16,7 @@ use Rattle.sectors.specs.Sector.{readable}
 use Rattle.sectors.specs.SectorLaws.{stored-inside}
 use Rattle.sectors.specs.Header.{Blank, Sound, Unsound, isBlank, isSound}
 use Rattle.sectors.specs.HeaderLaws.{finds-blanks, blank-multiple, fails, decides}
-use Rattle.sectors.specs.Audit.{HeaderIn, Means, soundVerdict, blankVerdict, unsoundVerdict, answerOf, verdictOf, auditOf, headerFormat, headerSize, headerAt}
+use Rattle.sectors.specs.Audit.{HeaderIn, soundVerdict, blankVerdict, unsoundVerdict, answerOf, verdictOf, auditOf, headerFormat, headerSize, headerAt}
 use Rattle.sectors.specs.declared.header.AuditAnswer.{AuditAnswer}
 use Rattle.sectors.specs.declared.header.AuditResult.{AuditResult}
 use Rattle.sectors.specs.declared.header.AuditResult.the-variants as audit
@@ -110,7 +110,13 @@ module _ (format : ℕ) (image : List ℕ) (lsn : ℕ) where
     (λ s. judged-there (s .has-header) (s .is-there) ∙ means (s .has-header, s .is-there) .1 (s .its-header)),
   )
 
-  -- "The audit shall answer sound, blank or unsound": what each of the numbers means
+  -- What each of the three answers means, both ways; they are numbers, or cases of the enum.
+  pub record Means {A : Type 0} (sound blank unsound answer : A) : Type 0 where
+    pub if-sound : answer ≡ sound ↔ HeaderIn Sound format image lsn
+    pub if-blank : answer ≡ blank ↔ HeaderIn Blank format image lsn
+    pub if-unsound : answer ≡ unsound ↔ HeaderIn Unsound format image lsn
+
+  -- "The audit shall answer sound, blank or unsound": of the numbers
   module _ (bytes : (i : ℕ) → getD image i 0 < 256) where
     there-told : There → Told (headerAt image lsn)
     unfolding headerAt
@@ -118,14 +124,14 @@ module _ (format : ℕ) (image : List ℕ) (lsn : ℕ) where
         told (headerAt image lsn) (part-length _ headerSize image (omega (arith, stored-inside headerFormat image lsn (t .1), header-inside)))
         (part-all-hold (λ b. b < 256) _ headerSize image 0 bytes)
 
-    pub verdict-means : Means soundVerdict blankVerdict unsoundVerdict format image lsn (auditOf format image lsn .verdict)
+    pub verdict-means : Means soundVerdict blankVerdict unsoundVerdict (auditOf format image lsn .verdict)
     verdict-means = record {
       if-sound = in-image Sound soundVerdict (omega arith) (λ t. there-told t .0);
       if-blank = in-image Blank blankVerdict (omega arith) (λ t. there-told t .1 .0);
       if-unsound = in-image Unsound unsoundVerdict (omega arith) (λ t. there-told t .1 .1);
     }
 
-    -- and what each case of the enum
+    -- and of the cases
     module _ (r : AuditResult) (answer : answerOf r ≡ auditOf format image lsn) where
       number : {v : ℕ} → auditOf format image lsn .verdict ≡ v → answerOf r .verdict ≡ v
       number e = ap (λ (a : AuditAnswer). a .verdict) answer ∙ e
@@ -137,7 +143,7 @@ module _ (format : ℕ) (image : List ℕ) (lsn : ℕ) where
         (λ p. tells (number (means .1 p))),
       )
 
-      pub result-means : Means audit.Sound audit.Blank audit.Unsound format image lsn r
+      pub result-means : Means audit.Sound audit.Blank audit.Unsound r
       unfolding answerOf resultOf
       result-means = record {
         if-sound = case-means audit.Sound (λ e. sym (found-again r) ∙ (rw e)) (verdict-means .if-sound);

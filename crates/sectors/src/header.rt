@@ -3,8 +3,8 @@ ghost use mathlib.Core.Path.{_≡_};
 ghost use mathlib.Core.Bool.{true};
 ghost use lib.ListN.{length};
 ghost use mathlib.Core.Logic.{_↔_};
-ghost use Rattle.sectors.specs.Header.{Multiple, atOne, atAlpha, isMultiple, isBlank};
-ghost use Rattle.sectors.specs.Audit.{Means, answerOf, auditOf};
+ghost use Rattle.sectors.specs.Header.{Multiple, Sound, Blank, Unsound, atOne, atAlpha, isMultiple, isBlank};
+ghost use Rattle.sectors.specs.Audit.{HeaderIn, answerOf, auditOf};
 use crate::bytes::same_bytes;
 use crate::field::times_alpha;
 use crate::refusal::FOREIGN_FORMAT;
@@ -92,7 +92,9 @@ fn is_blank(h: &[u8]) -> bool
 // Audits the header of a sector.
 pub fn audit(format: u32, image: &[u8], lsn: Lsn) -> AuditResult
     ensures answer { λ r. ⌜ answerOf r ≡ auditOf format (now (image .entry)) (lsn .0) ⌝ }
-    ensures means { λ r. ⌜ Means AuditResult.Sound AuditResult.Blank AuditResult.Unsound format (now (image .entry)) (lsn .0) r ⌝ }
+    ensures sound { λ r. ⌜ (r ≡ AuditResult.Sound) ↔ HeaderIn Sound format (now (image .entry)) (lsn .0) ⌝ }
+    ensures blank { λ r. ⌜ (r ≡ AuditResult.Blank) ↔ HeaderIn Blank format (now (image .entry)) (lsn .0) ⌝ }
+    ensures unsound { λ r. ⌜ (r ≡ AuditResult.Unsound) ↔ HeaderIn Unsound format (now (image .entry)) (lsn .0) ⌝ }
 {
     if is_foreign(format) {
         return AuditResult::ForeignFormat;

@@ -3,6 +3,7 @@
 use mathlib.Core.Path.{_∙_}
 use native.Mathlib.Omega.{arith}
 use borrow.Author.Needs.{needs}
+use denote.Ref.{now}
 use Rattle.sectors.specs.AuditLaws.{verdict-means}
 use Rattle.scarletbook.proofs.scarletbook_audit.Statement.{statement}
 use Rattle.scarletbook.proofs.scarletbook_audit.Tie as tie
@@ -15,8 +16,10 @@ audit-answer-requires c κs = search needs
 
 returns : tie.Need-returns
 returns c =
+    let known = c .before .before in let a = known .before .args in
     let e = c .audit-answer .ensures ∙ c .before .audit .ensures .0 in
-    (e, rw e (verdict-means _ _ _ (λ i. omega (arith, c .before .before .shared-slice-known .given i))))
+    let means = verdict-means (a .format) (now (a .image)) (a .lsn .0) (λ i. omega (arith, known .shared-slice-known .given i)) in
+    (e, rw e (means .if-sound, (means .if-blank, means .if-unsound)))
 
 pub scarletbook-audit-spec : {M : Type 1} → statement M
 scarletbook-audit-spec = tie.close (tie.spec audit-requires audit-answer-requires returns)
