@@ -9,6 +9,7 @@ use mathlib.Core.Path.{_≡_, refl, sym, ap, _∙_}
 use borrow.Author.Tests.{ltb-true, ltb-false, lt-ltb, not-true, not-false}
 use lib.Dec.{ltb}
 use lib.ListN.{length, getD}
+use Rattle.sectors.specs.CheckLaws.{fails, comes-here, comes-later, not-either}
 use Rattle.sectors.specs.Fill.{part}
 use Rattle.sectors.specs.FillLaws.{part-size, part-part}
 use Rattle.sectors.specs.Format.{foreign, storedSize, dataOffset, sectorSize}
@@ -58,37 +59,6 @@ NotScarletBook format image = part (placeOf format 510) 8 image ≢ masterSignat
 -- "master major version above 1": byte 8 of LSN 510
 abbrev pub Newer : ℕ → List ℕ → Type 0
 Newer format image = 1 < getD image (placeOf format 510 + 8) 0
-
--- ---- the first check that applies
-
-module _ {P : Type 0} (test : Bool) (says : (test ≡ true) ↔ P) (number rest : ℕ) where
-  -- its number is answered where it applies, and only there, if no later one is the same
-  comes-here : rest ≢ number → (cond test number rest ≡ number) ↔ P
-  comes-here other = go test refl
-    where
-      go : (t : Bool) → test ≡ t → (cond t number rest ≡ number) ↔ P
-      go true e = (λ q. says .0 e, λ p. refl)
-      go false e = (λ q. absurd (other q), λ p. absurd (true≢false (sym (says .1 p) ∙ e)))
-
-  -- a later one's where it does not and the later one does
-  comes-later : {Q : Type 0} (later : ℕ) → number ≢ later → (¬ P → (rest ≡ later) ↔ Q) → (cond test number rest ≡ later) ↔ (¬ P × Q)
-  comes-later {Q} later other comes = go test refl
-    where
-      go : (t : Bool) → test ≡ t → (cond t number rest ≡ later) ↔ (¬ P × Q)
-      go true e = (λ q. absurd (other q), λ p. absurd (p .0 (says .0 e)))
-      go false e =
-          let free : ¬ P = λ p. true≢false (sym (says .1 p) ∙ e) in
-          (λ q. (free, comes free .0 q), λ p. comes free .1 (p .1))
-
--- a test whose condition does not hold fails
-test-false : {P : Type 0} (test : Bool) → (test ≡ true) ↔ P → ¬ P → test ≡ false
-test-false true says free = absurd (free (says .0 refl))
-test-false false says free = refl
-
--- a number that neither has
-not-either : (test : Bool) (number rest other : ℕ) → number ≢ other → rest ≢ other → cond test number rest ≢ other
-not-either true number rest other a b = a
-not-either false number rest other a b = b
 
 -- ---- the tests say the conditions
 
@@ -165,7 +135,7 @@ module _ (format : ℕ) (image : List ℕ) where
     scarlet-says =
         let says = signature-says 0 masterSignature (omega arith) refl in (
           (λ e q. true≢false (sym (says .1 q) ∙ not-true (signedAt (masterTable format image) 0 masterSignature) e)),
-          (λ n. rw (test-false (signedAt (masterTable format image) 0 masterSignature) says n)),
+          (λ n. rw (fails (signedAt (masterTable format image) 0 masterSignature) says .1 n)),
         )
 
     newer-says : (isNewer (masterTable format image) ≡ true) ↔ Newer format image
@@ -345,17 +315,17 @@ module _ (format : ℕ) (image : List ℕ) (memory : Memory) where
     is-reading : readDisc format image memory ≡ readingOf source table format memory
     unfolding readDisc outcomeOf imageMaster masterIn judged masterTable
     is-reading =
-        let signed = not-false (isScarletBook table) (test-false (not (isScarletBook table)) (scarlet-says format image not-truncated) scarlet) in
+        let signed = not-false (isScarletBook table) (fails (not (isScarletBook table)) (scarlet-says format image not-truncated) .1 scarlet) in
         rw (
-          test-false (foreign format) (foreign-when format) not-foreign,
-          test-false (shortTest memory) (short-says memory) not-short,
+          fails (foreign format) (foreign-when format) .1 not-foreign,
+          fails (shortTest memory) (short-says memory) .1 not-short,
           image-run format image masterLsn masterSectors (there format image not-truncated),
           signed,
-          test-false (isNewer table) (newer-says format image not-truncated) not-newer,
+          fails (isNewer table) (newer-says format image not-truncated) .1 not-newer,
         )
 
     enough : workBytes ≤ length (memory .work)
-    enough = ltb-false (length (memory .work)) workBytes (test-false (ltb (length (memory .work)) workBytes) (λ e. e, λ e. e) (λ e. not-short (inl (ltb-true (length (memory .work)) workBytes e))))
+    enough = ltb-false (length (memory .work)) workBytes (fails (ltb (length (memory .work)) workBytes) (λ e. e, λ e. e) .1 (λ e. not-short (inl (ltb-true (length (memory .work)) workBytes e))))
 
     table-long : length table ≡ masterBytes
     unfolding masterTable
@@ -382,7 +352,7 @@ module _ (format : ℕ) (image : List ℕ) (memory : Memory) where
 
     -- .. and 0 elsewhere
     pub manufacturer-unflagged : part (placeOf format 519) 8 image ≢ manufacturerSignature → readDisc format image memory .answer .master .manufacturer ≡ 0
-    manufacturer-unflagged other-bytes = rw (manufacturer-of, test-false (hasManufacturer table) manufacturer-says other-bytes)
+    manufacturer-unflagged other-bytes = rw (manufacturer-of, fails (hasManufacturer table) manufacturer-says .1 other-bytes)
 
     -- "its 2,040 bytes standing in the master region.": those behind the signature
     pub manufacturer-stands : part (masterRegion + 9 * sectorSize + 8) 2040 (readDisc format image memory .memory .work) ≡ part (placeOf format 519 + 8) 2040 image

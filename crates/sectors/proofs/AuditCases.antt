@@ -12,13 +12,11 @@ use mir.Syntax.{w8}
 use mir.Val.{Fits}
 use borrow.Author.Tests.{ne-eqb, not-true, not-false}
 use Rattle.sectors.specs.Fill.{part}
-use Rattle.sectors.specs.FillLaws.{part-length}
 use Rattle.sectors.specs.Format.{foreign, layoutOf, storedSize}
 use Rattle.sectors.specs.Sector.{readable}
-use Rattle.sectors.specs.SectorLaws.{stored-inside}
 use Rattle.sectors.specs.Header.{Sound, Blank, Unsound, isMultiple, isBlank, isSound}
 use Rattle.sectors.specs.Audit.{HeaderIn, answerOf, verdictOf, auditOf, headerFormat, headerSize, headerAt}
-use Rattle.sectors.specs.AuditLaws.{result-means}
+use Rattle.sectors.specs.AuditLaws.{header-length, result-means}
 use Rattle.sectors.specs.declared.header.AuditResult.{AuditResult}
 use Rattle.sectors.specs.declared.header.AuditResult.the-variants as audit
 
@@ -34,7 +32,7 @@ module _ (format : ℕ) (image : List ℕ) (lsn : ℕ) where
       → Answers r × (Exactly r audit.Sound Sound × (Exactly r audit.Blank Blank × Exactly r audit.Unsound Unsound))
   right bytes r e =
       let means = result-means format image lsn (λ i. omega (arith, bytes i)) r e in
-      (e, (means .if-sound, (means .if-blank, means .if-unsound)))
+      (e, (means .sound-iff, (means .blank-iff, means .unsound-iff)))
 
   module _ {test : Bool} (known : test ≡ foreign format) where
     pub foreign-answer : test ≡ true → Answers audit.ForeignFormat
@@ -60,14 +58,12 @@ module _ (format : ℕ) (image : List ℕ) (lsn : ℕ) where
       header-there = (sym known ∙ not-false there found, rw two (omega arith))
 
       module _ {six : List ℕ} (is-part : six ≡ part (lsn * storedSize format + 0) headerSize image) where
-        pub six-long : length six ≡ headerSize
-        six-long =
-            ap length is-part
-            ∙ part-length (lsn * storedSize format + 0) headerSize image (omega (arith, stored-inside format image lsn (header-there .0), header-there .1))
-
         six-is : six ≡ headerAt image lsn
         unfolding headerAt
         six-is = is-part ∙ (rw (two, add-zero))
+
+        pub six-long : length six ≡ headerSize
+        six-long = ap length six-is ∙ header-length image lsn (sym there-in-two ∙ not-false there found)
 
         verdict-answer : (r : AuditResult) → answerOf r ≡ record { refusal = 0; verdict = verdictOf six } → Answers r
         unfolding auditOf foreign

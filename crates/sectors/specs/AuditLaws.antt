@@ -4,18 +4,19 @@ use mathlib.Core.Path.{_≡_, refl, sym, ap, _∙_}
 use mathlib.Core.Bool.{Bool, true, false, cond}
 use mathlib.Core.List.{List}
 use mathlib.Core.Logic.{_↔_, _≢_}
-use Prim.Native.Nat.{ℕ, _<_, _≤_}
+use Prim.Native.Nat.{ℕ, _*_, _<_}
 use native.Mathlib.Omega.{arith}
 use lib.Dec.{eqb}
 use lib.ListN.{getD, length}
-use borrow.Author.Tests.{eqb-true, eqb-false}
+use borrow.Author.Tests.{eqb-true}
+use Rattle.sectors.specs.CheckLaws.{comes-here, comes-later, not-either}
 use Rattle.sectors.specs.FillLaws.{part-length, part-all-hold}
 use Rattle.sectors.specs.Format.{foreign, layoutOf, storedSize}
 use Rattle.sectors.specs.Refusal.{foreignFormat, noHeader}
 use Rattle.sectors.specs.Sector.{readable}
 use Rattle.sectors.specs.SectorLaws.{stored-inside}
 use Rattle.sectors.specs.Header.{Blank, Sound, Unsound, isBlank, isSound}
-use Rattle.sectors.specs.HeaderLaws.{finds-blanks, blank-multiple, fails, decides}
+use Rattle.sectors.specs.HeaderLaws.{finds-blanks, blank-not-unsound, decides}
 use Rattle.sectors.specs.Audit.{HeaderIn, soundVerdict, blankVerdict, unsoundVerdict, answerOf, verdictOf, auditOf, headerFormat, headerSize, headerAt}
 use Rattle.sectors.specs.declared.header.AuditAnswer.{AuditAnswer}
 use Rattle.sectors.specs.declared.header.AuditResult.{AuditResult}
@@ -42,58 +43,57 @@ found-again audit.NoSuchEntry = refl
 pub answer-tells : (r s : AuditResult) → answerOf r ≡ answerOf s → r ≡ s
 answer-tells r s e = sym (found-again r) ∙ ap resultOf e ∙ found-again s
 
--- ---- the verdict on six bytes
+-- ---- the verdict on six bytes: the three exclude each other, and one of them holds
 
--- a number comes exactly where P holds: it has come and P holds, or another has come and P does not hold
-comes : {P : Type 0} {v k : ℕ} → v ≡ k → P → v ≡ k ↔ P
-comes e p = ((λ q. p), (λ q. e))
-
-stays-away : {P : Type 0} {v n k : ℕ} → v ≡ n → eqb n k ≡ false → ¬ P → v ≡ k ↔ P
-stays-away {n = n} {k = k} e other never = ((λ q. absurd (eqb-false n k other (sym e ∙ q))), (λ p. absurd (never p)))
-
-abbrev Told : List ℕ → Type 0
-Told h = (verdictOf h ≡ soundVerdict ↔ Sound h) × ((verdictOf h ≡ blankVerdict ↔ Blank h) × (verdictOf h ≡ unsoundVerdict ↔ Unsound h))
-
--- the three exclude each other, and one of them holds
 module _ (h : List ℕ) (six : length h ≡ 6) (bytes : (i : ℕ) → getD h i 0 < 256) where
-  told-by : (s b : Bool) → isSound h ≡ s → isBlank h ≡ b → Told h
-  unfolding verdictOf
-  told-by true b e f =
-      let v : verdictOf h ≡ soundVerdict = rw e in let sound = decides h six bytes .0 e in
-      (comes v sound, (stays-away v refl (sound .not-blank), stays-away v refl (λ u. u .no-multiple (sound .is-multiple))))
-  told-by false true e f =
-      let v : verdictOf h ≡ blankVerdict = rw (e, f) in let blank = finds-blanks h .0 f in
-      (stays-away v refl (λ s. s .not-blank blank), (comes v blank, stays-away v refl (λ u. u .no-multiple (blank-multiple h blank))))
-  told-by false false e f =
-      let v : verdictOf h ≡ unsoundVerdict = rw (e, f) in
-      let not-sound = fails (isSound h) (decides h six bytes) .0 e in
-      let not-blank = fails (isBlank h) (finds-blanks h) .0 f in
-      let unsound : Unsound h = record { no-multiple = λ m. not-sound (record { is-multiple = m; not-blank = not-blank }) } in
-      (stays-away v refl not-sound, (stays-away v refl not-blank, comes v unsound))
+  abbrev unlessSound : ℕ
+  unlessSound = cond (isBlank h) blankVerdict unsoundVerdict
 
-  told : Told h
-  told = told-by (isSound h) (isBlank h) refl refl
+  sound-verdict : verdictOf h ≡ soundVerdict ↔ Sound h
+  unfolding verdictOf
+  sound-verdict =
+      comes-here (isSound h) (decides h six bytes) soundVerdict unlessSound
+      (not-either (isBlank h) blankVerdict unsoundVerdict soundVerdict (omega arith) (omega arith))
+
+  -- any other verdict comes where the header is not sound
+  not-sound : {Q : Type 0} (k : ℕ) → soundVerdict ≢ k → unlessSound ≡ k ↔ Q → verdictOf h ≡ k ↔ (¬ Sound h × Q)
+  unfolding verdictOf
+  not-sound k other comes = comes-later (isSound h) (decides h six bytes) soundVerdict unlessSound k other (λ free. comes)
+
+  blank-verdict : verdictOf h ≡ blankVerdict ↔ Blank h
+  blank-verdict =
+      let comes = not-sound blankVerdict (omega arith) (comes-here (isBlank h) (finds-blanks h) blankVerdict unsoundVerdict (omega arith)) in
+      ((λ e. comes .0 e .1), (λ b. comes .1 ((λ s. s .not-blank b), b)))
+
+  unsound-verdict : verdictOf h ≡ unsoundVerdict ↔ Unsound h
+  unsound-verdict =
+      let not-blank = comes-later (isBlank h) (finds-blanks h) blankVerdict unsoundVerdict unsoundVerdict (omega arith) (λ free. ((λ e. e), (λ e. e))) in
+      let comes = not-sound unsoundVerdict (omega arith) not-blank in (
+        (λ e. let neither = comes .0 e in record { no-multiple = λ m. neither .0 (record { is-multiple = m; not-blank = neither .1 .0 }) }),
+        (λ u. comes .1 ((λ s. u .no-multiple (s .is-multiple)), ((λ b. blank-not-unsound h b u), refl))),
+      )
 
 -- ---- the audit's answer
 
-header-inside : headerSize ≤ storedSize headerFormat
-unfolding storedSize layoutOf
-header-inside = omega arith
+pub header-length : (image : List ℕ) (lsn : ℕ) → readable headerFormat (length image) lsn 1 ≡ true → length (headerAt image lsn) ≡ headerSize
+unfolding headerAt storedSize layoutOf
+header-length image lsn there =
+    part-length (lsn * storedSize headerFormat) headerSize image (omega (arith, stored-inside headerFormat image lsn there))
 
 module _ (format : ℕ) (image : List ℕ) (lsn : ℕ) where
   -- a header that is there is judged, and only such a one
   judged-there : format ≡ headerFormat → readable headerFormat (length image) lsn 1 ≡ true → auditOf format image lsn .verdict ≡ verdictOf (headerAt image lsn)
   unfolding auditOf foreign
-  judged-there two there = rw (two, there)
+  judged-there two inside = rw (two, inside)
 
   abbrev There : Type 0
   There = (format ≡ headerFormat) × (readable headerFormat (length image) lsn 1 ≡ true)
 
-  there-by : (far two there : Bool) → foreign format ≡ far → eqb format headerFormat ≡ two → readable format (length image) lsn 1 ≡ there
+  there-by : (far two inside : Bool) → foreign format ≡ far → eqb format headerFormat ≡ two → readable format (length image) lsn 1 ≡ inside
       → auditOf format image lsn .verdict ≢ 0 → There
   unfolding auditOf
-  there-by true two there e f g v = absurd (v (rw e))
-  there-by false false there e f g v = absurd (v (rw (e, f)))
+  there-by true two inside e f g v = absurd (v (rw e))
+  there-by false false inside e f g v = absurd (v (rw (e, f)))
   there-by false true false e f g v = absurd (v (rw (e, f, g)))
   there-by false true true e f g v = let is-two = eqb-true format headerFormat f in (is-two, rw is-two at g)
 
@@ -112,23 +112,22 @@ module _ (format : ℕ) (image : List ℕ) (lsn : ℕ) where
 
   -- What each of the three answers means, both ways; they are numbers, or cases of the enum.
   pub record Means {A : Type 0} (sound blank unsound answer : A) : Type 0 where
-    pub if-sound : answer ≡ sound ↔ HeaderIn Sound format image lsn
-    pub if-blank : answer ≡ blank ↔ HeaderIn Blank format image lsn
-    pub if-unsound : answer ≡ unsound ↔ HeaderIn Unsound format image lsn
+    pub sound-iff : answer ≡ sound ↔ HeaderIn Sound format image lsn
+    pub blank-iff : answer ≡ blank ↔ HeaderIn Blank format image lsn
+    pub unsound-iff : answer ≡ unsound ↔ HeaderIn Unsound format image lsn
 
   -- "The audit shall answer sound, blank or unsound": of the numbers
   module _ (bytes : (i : ℕ) → getD image i 0 < 256) where
-    there-told : There → Told (headerAt image lsn)
+    -- a law of any six bytes, of the header that is there
+    judged-by : {Q : List ℕ → Type 0} → ((h : List ℕ) → length h ≡ 6 → ((i : ℕ) → getD h i 0 < 256) → Q h) → There → Q (headerAt image lsn)
     unfolding headerAt
-    there-told t =
-        told (headerAt image lsn) (part-length _ headerSize image (omega (arith, stored-inside headerFormat image lsn (t .1), header-inside)))
-        (part-all-hold (λ b. b < 256) _ headerSize image 0 bytes)
+    judged-by law t = law (headerAt image lsn) (header-length image lsn (t .1)) (part-all-hold (λ b. b < 256) _ headerSize image 0 bytes)
 
     pub verdict-means : Means soundVerdict blankVerdict unsoundVerdict (auditOf format image lsn .verdict)
     verdict-means = record {
-      if-sound = in-image Sound soundVerdict (omega arith) (λ t. there-told t .0);
-      if-blank = in-image Blank blankVerdict (omega arith) (λ t. there-told t .1 .0);
-      if-unsound = in-image Unsound unsoundVerdict (omega arith) (λ t. there-told t .1 .1);
+      sound-iff = in-image Sound soundVerdict (omega arith) (judged-by sound-verdict);
+      blank-iff = in-image Blank blankVerdict (omega arith) (judged-by blank-verdict);
+      unsound-iff = in-image Unsound unsoundVerdict (omega arith) (judged-by unsound-verdict);
     }
 
     -- and of the cases
@@ -146,7 +145,7 @@ module _ (format : ℕ) (image : List ℕ) (lsn : ℕ) where
       pub result-means : Means audit.Sound audit.Blank audit.Unsound r
       unfolding answerOf resultOf
       result-means = record {
-        if-sound = case-means audit.Sound (λ e. sym (found-again r) ∙ (rw e)) (verdict-means .if-sound);
-        if-blank = case-means audit.Blank (λ e. sym (found-again r) ∙ (rw e)) (verdict-means .if-blank);
-        if-unsound = case-means audit.Unsound (λ e. sym (found-again r) ∙ (rw e)) (verdict-means .if-unsound);
+        sound-iff = case-means audit.Sound (λ e. sym (found-again r) ∙ (rw e)) (verdict-means .sound-iff);
+        blank-iff = case-means audit.Blank (λ e. sym (found-again r) ∙ (rw e)) (verdict-means .blank-iff);
+        unsound-iff = case-means audit.Unsound (λ e. sym (found-again r) ∙ (rw e)) (verdict-means .unsound-iff);
       }

@@ -1,17 +1,18 @@
 -- Six bytes are a multiple of (x + 1)(x + α) where they are zero at 1 and at α, and only there. A product is zero at both. The other
 -- way, Horner's values at α are the quotient by x + α; that is zero at 1 too, so x + 1 divides it. Assumes nothing.
-use mathlib.Core.Path.{_≡_, refl, sym, ap, _∙_}
+use mathlib.Core.Path.{_≡_, sym, ap, _∙_}
 use mathlib.Core.List.{List, [], _∷_}
 use mathlib.Core.Logic.{_↔_}
-use mathlib.Core.Bool.{Bool, true, false, not, and-eq-true-iff, true≢false}
+use mathlib.Core.Bool.{true, not, and-eq-true-iff}
 use Prim.Native.Nat.{ℕ, _<_}
 use lib.Dec.{eqb}
 use lib.ListN.{getD, length}
 use borrow.Author.Tests.{eqb-true, not-true}
 use native.Mathlib.Omega.{arith}
 use Rattle.sectors.specs.BytesLaws.{same-eq, same-refl}
+use Rattle.sectors.specs.CheckLaws.{fails}
 use Rattle.sectors.specs.Field.{_⊕_, timesAlpha}
-use Rattle.sectors.specs.Header.{timesRoot, product, Multiple, Blank, Sound, sixZeros, atOne, atAlpha, isMultiple, isBlank, isSound}
+use Rattle.sectors.specs.Header.{timesRoot, product, Multiple, Blank, Sound, Unsound, sixZeros, atOne, atAlpha, isMultiple, isBlank, isSound}
 use Rattle.sectors.specs.XorLaws.{sums, sum-lt, zero-sum, equal-if-zero}
 use Rattle.sectors.specs.AlphaLaws.{linear, alpha-zero, alpha-lt, only-zero-stays}
 use Rattle.sectors.specs.TableLaws.{values, places}
@@ -99,10 +100,8 @@ blank-multiple h b =
       multiple = (simp (sums, alpha-zero)) ∙ sym (b .is-zeros);
     }
 
--- a test that decides P fails where P does not hold, and only there
-pub fails : {P : Type 0} (test : Bool) → (test ≡ true ↔ P) → test ≡ false ↔ (¬ P)
-fails true decided = ((λ e. absurd (true≢false e)), (λ never. absurd (never (decided .0 refl))))
-fails false decided = ((λ e p. true≢false (sym (decided .1 p))), (λ never. refl))
+pub blank-not-unsound : (h : List ℕ) → Blank h → ¬ Unsound h
+blank-not-unsound h b u = u .no-multiple (blank-multiple h b)
 
 -- "It is sound when the six, first byte highest, are a multiple of (x + 1)(x + α)", but for blank ones: of any six bytes the test passes where they
 -- are sound, and only there.

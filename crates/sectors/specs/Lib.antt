@@ -1,5 +1,6 @@
 pub mod Options
 pub mod OptionLaws
+pub mod CheckLaws
 pub mod Bytes
 pub mod BytesLaws
 pub mod Fill

@@ -1,15 +1,16 @@
--- The starred cards hold, all together: the definitions of the layers are computed, and a card whose test passes holds. Assumes nothing.
+-- The cards hold, all together: the definitions of the layers are computed, and a card whose test passes holds. Assumes nothing.
 use Prim.Native.Nat.{ℕ, zero, suc, _<_}
 use native.Mathlib.Omega.{arith}
-use mathlib.Core.Path.{_≡_, refl, sym, _∙_}
-use mathlib.Core.Bool.{Bool, true, false, _&&_, and-eq-true-iff, true≢false}
+use mathlib.Core.Path.{_≡_, refl, sym}
+use mathlib.Core.Bool.{Bool, true, false, _&&_, and-eq-true-iff}
 use mathlib.Core.List.{List, [], _∷_, flatMap}
 use borrow.Author.Tests.{ltb-true, eqb-true, not-true}
 use lib.Dec.{ltb, eqb}
 use lib.ListN.{length, getD, replicate}
-use Rattle.sectors.specs.Audit.{headerSize}
+use Rattle.sectors.specs.Audit.{headerSize, verdictOf}
 use Rattle.sectors.specs.Bytes.{same}
 use Rattle.sectors.specs.BytesLaws.{same-eq}
+use Rattle.sectors.specs.CheckLaws.{fails}
 use Rattle.sectors.specs.Field.{_⊕_, timesAlpha}
 use Rattle.sectors.specs.Fill.{fill}
 use Rattle.sectors.specs.Header.{atOne, atAlpha, isMultiple, isBlank, isSound}
@@ -21,11 +22,11 @@ use Rattle.text.specs.Utf8.{groups, marked, utf8, blanked, encoded}
 use Rattle.area.specs.Cap.{exceeds, capped, uncapped, capOf}
 use Rattle.area.specs.Timecode.{frameNumber}
 use Rattle.area.specs.declared.cap.Capped.{Capped}
-use Rattle.worked.specs.Cards.{Card, frameCard, capCard, byteCard, charsetCard, headerCard, cardPlaytime, cards, Judged, Holds, AllHold, alike, sameTimes, decodesTo, areBytes, passes, allPass}
+use Rattle.worked.specs.Cards.{Card, frameCard, capCard, byteCard, charsetCard, headerCard, verdictCard, cardPlaytime, cards, Judged, Holds, AllHold, alike, sameTimes, decodesTo, areBytes, passes, allPass}
 
 cards-pass : allPass cards ≡ true
 unfolding
-    cards alike sameTimes decodesTo areBytes passes allPass frameNumber exceeds capped uncapped capOf latin1Points pointsOf giving answerIn pageWith decodeOf decodeInto present groups marked utf8 blanked encoded flatMap fill same setOf isMapped charsetOf _⊕_ timesAlpha atOne atAlpha isMultiple isBlank isSound
+    cards alike sameTimes decodesTo areBytes passes allPass frameNumber exceeds capped uncapped capOf latin1Points pointsOf giving answerIn pageWith decodeOf decodeInto present groups marked utf8 blanked encoded flatMap fill same setOf isMapped charsetOf _⊕_ timesAlpha atOne atAlpha isMultiple isBlank isSound verdictOf
 cards-pass = refl
 
 -- ---- a card whose test passes holds
@@ -57,7 +58,7 @@ bytes-below (b ∷ rest) e (suc i) = bytes-below rest (both (ltb b 256) (areByte
 judged : (bytes : List ℕ) (sound : Bool) → length bytes ≡ headerSize → ((i : ℕ) → getD bytes i 0 < 256) → isSound bytes ≡ sound → Judged sound bytes
 unfolding Judged
 judged bytes true six below e = decides bytes six below .0 e
-judged bytes false six below e = λ s. true≢false (sym (decides bytes six below .1 s) ∙ e)
+judged bytes false six below e = fails (isSound bytes) (decides bytes six below) .0 e
 
 holds : (card : Card) → passes card ≡ true → Holds card
 unfolding passes Holds decodesTo
@@ -74,6 +75,7 @@ holds (headerCard bytes sound) e =
     let all = both (eqb (length bytes) headerSize && areBytes bytes) (alike (isSound bytes) sound) e in
     let six = both (eqb (length bytes) headerSize) (areBytes bytes) (all .0) in
     judged bytes sound (eqb-true (length bytes) headerSize (six .0)) (bytes-below bytes (six .1)) (alike-same (isSound bytes) sound (all .1))
+holds (verdictCard bytes verdict) e = eqb-true (verdictOf bytes) verdict e
 
 all-hold : (them : List Card) → allPass them ≡ true → AllHold them
 unfolding allPass AllHold

@@ -1,4 +1,4 @@
--- The starred cards of 01 ("Bench cards") as one table: each has what is asked and the answer that it wants, says a proposition of the definitions,
+-- The starred cards of 01 ("Bench cards"), and examples of 02, as one table: each has what is asked and the answer that it wants, says a proposition of the definitions,
 -- and has a test that can be computed. Assumes nothing.
 use Prim.Native.Nat.{ℕ}
 use mathlib.Core.Bool.{Bool, true, false, cond, not, _&&_}
@@ -6,7 +6,7 @@ use mathlib.Core.List.{List, [], _∷_}
 use mathlib.Core.Path.{_≡_}
 use lib.Dec.{ltb, eqb}
 use lib.ListN.{length, replicate}
-use Rattle.sectors.specs.Audit.{headerSize}
+use Rattle.sectors.specs.Audit.{headerSize, verdictOf}
 use Rattle.sectors.specs.Bytes.{same}
 use Rattle.sectors.specs.Header.{Sound, isSound}
 use Rattle.text.specs.Charset.{latin1, charsetOf}
@@ -28,6 +28,8 @@ pub data Card : Type 0 where
   charsetCard : ℕ → ℕ → Card
   -- a header's six bytes; whether it is sound
   headerCard : List ℕ → Bool → Card
+  -- a header's six bytes; the number of what is answered of it
+  verdictCard : List ℕ → ℕ → Card
 
 abbrev timecode : ℕ → ℕ → ℕ → Timecode
 timecode minutes seconds frames = record { minutes = minutes; seconds = seconds; frames = frames }
@@ -64,6 +66,11 @@ cards =
     -- "Header 00 00 00 01 03 02 sound*, 00 00 00 01 02 03 not*."
     ∷ headerCard (0x00 ∷ 0x00 ∷ 0x00 ∷ 0x01 ∷ 0x03 ∷ 0x02 ∷ []) true
     ∷ headerCard (0x00 ∷ 0x00 ∷ 0x00 ∷ 0x01 ∷ 0x02 ∷ 0x03 ∷ []) false
+    -- 02, item 2: "sound, blank or unsound, blank being exactly those six zeros"
+    ∷ verdictCard (0x00 ∷ 0x00 ∷ 0x00 ∷ 0x01 ∷ 0x03 ∷ 0x02 ∷ []) 1
+    ∷ verdictCard (0x00 ∷ 0x00 ∷ 0x00 ∷ 0x00 ∷ 0x00 ∷ 0x00 ∷ []) 2
+    ∷ verdictCard (0x00 ∷ 0x00 ∷ 0x00 ∷ 0x00 ∷ 0x00 ∷ 0x01 ∷ []) 3
+    ∷ verdictCard (0x01 ∷ 0x00 ∷ 0x00 ∷ 0x00 ∷ 0x00 ∷ 0x00 ∷ []) 3
     ∷ []
 
 -- ---- what a card says
@@ -84,6 +91,7 @@ Holds (capCard start duration times) = capOf start duration cardPlaytime ≡ tim
 Holds (byteCard b text) = Decodes (b ∷ []) latin1 text
 Holds (charsetCard code charset) = charsetOf code ≡ charset
 Holds (headerCard bytes sound) = Judged sound bytes
+Holds (verdictCard bytes verdict) = verdictOf bytes ≡ verdict
 
 -- all of them do
 unfoldable pub AllHold : List Card → Type 0
@@ -116,6 +124,7 @@ passes (capCard start duration times) = sameTimes (capOf start duration cardPlay
 passes (byteCard b text) = decodesTo (b ∷ []) latin1 text
 passes (charsetCard code charset) = eqb (charsetOf code) charset
 passes (headerCard bytes sound) = eqb (length bytes) headerSize && areBytes bytes && alike (isSound bytes) sound
+passes (verdictCard bytes verdict) = eqb (verdictOf bytes) verdict
 
 unfoldable pub allPass : List Card → Bool
 allPass [] = true

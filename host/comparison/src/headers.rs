@@ -20,7 +20,7 @@ pub struct Headers {
 
 impl Headers {
     pub fn new() -> Self {
-        let zeros = ["six zeros", "one byte changed in zeros"];
+        let zeros = ["six zeros", "one byte changed in zeros", "multiple of three bytes"];
         let others = ["correct", "one byte changed", "random"];
         let verdicts = ["sound", "blank", "unsound"];
         let stretches = PLACES.map(Place::class);
@@ -47,13 +47,15 @@ impl Headers {
         }
     }
 
-    /// Six zeros, and every header that differs from them in one byte.
+    /// Six zeros, every header that differs from them in one byte, and every multiple that differs
+    /// in three bytes that stand together: no other is nearer.
     fn zeros(&mut self) {
-        let changed = header::single_changes([0; 6]);
-        let headers: Vec<_> = [[0; 6]].into_iter().chain(changed).collect();
-        audit_all(&mut self.many, &image(&headers));
+        let changed: Vec<_> = header::single_changes([0; 6]).collect();
+        let multiples: Vec<_> = header::products().collect();
+        audit_all(&mut self.many, &image(&[&[[0; 6]][..], &changed, &multiples].concat()));
         self.many.class("six zeros", 1);
-        self.many.class("one byte changed in zeros", headers.len() - 1);
+        self.many.class("one byte changed in zeros", changed.len());
+        self.many.class("multiple of three bytes", multiples.len());
     }
 
     /// A correct header, all its single changes, other correct ones, random ones.

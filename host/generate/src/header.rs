@@ -7,6 +7,8 @@ use crate::Rng;
 
 pub type Header = [u8; 6];
 
+const ALPHA: u8 = 2;
+
 /// The product of two elements, by shifting and adding.
 pub fn times(a: u8, b: u8) -> u8 {
     let mut sum = 0;
@@ -24,7 +26,6 @@ pub fn times(a: u8, b: u8) -> u8 {
 /// The two lowest coefficients that are left of a header when it is divided by
 /// (x + 1)(x + α) = x^2 + (1 + α)x + α.
 pub fn remainder(header: Header) -> [u8; 2] {
-    const ALPHA: u8 = 2;
     let mut rest = header;
     for high in 0..4 {
         let factor = rest[high];
@@ -84,6 +85,21 @@ pub fn single_changes(header: Header) -> impl Iterator<Item = Header> {
             let mut changed = header;
             changed[at] ^= change;
             changed
+        })
+    })
+}
+
+/// The polynomial (x + 1)(x + α) times each nonzero element, at each place of a header.
+pub fn products() -> impl Iterator<Item = Header> {
+    (0..4).flat_map(|at| {
+        (1..=255).map(move |factor| {
+            let mut header = [0; 6];
+            header[at..at + 3].copy_from_slice(&[
+                factor,
+                times(factor, 1 ^ ALPHA),
+                times(factor, ALPHA),
+            ]);
+            header
         })
     })
 }

@@ -1,6 +1,6 @@
 use crate::Rng;
 use crate::header::{
-    Header, Verdict, correct, damaged, is_multiple, single_changes, times, verdict,
+    Header, Verdict, correct, damaged, is_multiple, products, single_changes, times, verdict,
 };
 use crate::image::{CONTENTS, Image, any_image};
 use crate::layout::{DATA, layout};
@@ -122,6 +122,13 @@ fn the_powers_of_alpha_come_back_after_255() {
 fn division_agrees_with_the_two_headers_of_the_document() {
     assert_eq!(verdict([0, 0, 0, 1, 3, 2]), Verdict::Sound);
     assert_eq!(verdict([0, 0, 0, 1, 2, 3]), Verdict::Unsound);
+}
+
+#[test]
+fn products_of_the_polynomial_are_sound() {
+    assert_eq!(products().count(), 4 * 255);
+    assert!(products().all(|product| verdict(product) == Verdict::Sound));
+    assert!(products().any(|product| product == [0, 0, 0, 1, 3, 2]));
 }
 
 #[test]

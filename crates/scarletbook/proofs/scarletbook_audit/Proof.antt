@@ -19,7 +19,7 @@ returns c =
     let known = c .before .before in let a = known .before .args in
     let e = c .audit-answer .ensures ∙ c .before .audit .ensures .0 in
     let means = verdict-means (a .format) (now (a .image)) (a .lsn .0) (λ i. omega (arith, known .shared-slice-known .given i)) in
-    (e, rw e (means .if-sound, (means .if-blank, means .if-unsound)))
+    (e, rw e (means .sound-iff, (means .blank-iff, means .unsound-iff)))
 
 pub scarletbook-audit-spec : {M : Type 1} → statement M
 scarletbook-audit-spec = tie.close (tie.spec audit-requires audit-answer-requires returns)
