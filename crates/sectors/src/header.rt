@@ -1,8 +1,8 @@
 // The header of a sector of a format 2 image: six bytes, blank when they are zeros, sound when they are another multiple of (x + 1)(x + α).
 ghost use mathlib.Core.Path.{_≡_};
 ghost use mathlib.Core.Bool.{true};
-ghost use lib.ListN.{length};
 ghost use mathlib.Core.Logic.{_↔_};
+ghost use lib.ListN.{length};
 ghost use Rattle.sectors.specs.Header.{Multiple, Sound, Blank, Unsound, atOne, atAlpha, isMultiple, isBlank};
 ghost use Rattle.sectors.specs.Audit.{HeaderIn, answerOf, auditOf};
 use crate::bytes::same_bytes;

@@ -1,5 +1,5 @@
--- The starred cards of 01 ("Bench cards"), and examples of 02, as one table: each has what is asked and the answer that it wants, says a proposition of the definitions,
--- and has a test that can be computed. Assumes nothing.
+-- The starred cards of 01 ("Bench cards"), and examples of 02, as one table: each has what is asked and the answer that it wants, says a proposition
+-- of the definitions, and has a test that can be computed. Assumes nothing.
 use Prim.Native.Nat.{ℕ}
 use mathlib.Core.Bool.{Bool, true, false, cond, not, _&&_}
 use mathlib.Core.List.{List, [], _∷_}

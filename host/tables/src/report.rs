@@ -148,10 +148,10 @@ mod tests {
         report.line(format_args!("third"))
     }
 
-    /// 9,000 blank headers, in three steps; after the first there is time for a percentage.
+    /// 9,000 blank headers, in three steps; after each there is time for a percentage.
     fn blank_headers(report: &mut TerminalReport) -> io::Result<()> {
         let image = vec![0; 9000 * 2064];
-        let at_step = |done, _| sleep(if done == 0 { PAUSE } else { Duration::ZERO });
+        let at_step = |_, _| sleep(PAUSE);
         let sectors = Sectors { format: 2, image: &image, at_step: &at_step };
         sectors.audit(report).map(|audited| assert_eq!(audited.map(|all| all.blank), Ok(9000)))
     }
@@ -171,7 +171,7 @@ mod tests {
     #[test]
     fn a_run_of_blank_headers_and_the_percentage_do_not_mix() {
         let lines = "0-8999: blank headers\n9000 headers: 0 sound, 9000 blank, 0 unsound\n";
-        let percentages = "\r  0 %\r 45 %\r\x1b[K";
+        let percentages = "\r  0 %\r 45 %\r 91 %\r\x1b[K";
         assert_eq!(shown(true, blank_headers), (format!("{percentages}{lines}"), String::new()));
         assert_eq!(shown(false, blank_headers), (lines.to_owned(), percentages.to_owned()));
     }
