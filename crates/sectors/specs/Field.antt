@@ -10,7 +10,7 @@ unfoldable pub _⊕_ : ℕ → ℕ → ℕ
 _⊕_ a b = bitXor a b
 
 infixl 68 _⊕_
--- The product with α, the element x: the byte doubled; where that gives an x^8, less x^8 and plus what x^8 is in the field,
--- x^4 + x^3 + x^2 + 1, hexadecimal 1D.
+-- 02, item 3, of the product with α, the element x: "Multiply by doubling, and add hexadecimal 1D when the top bit was set." The doubled top bit is
+-- x^8, which goes; 1D is what x^8 is in the field, x^4 + x^3 + x^2 + 1.
 unfoldable pub timesAlpha : ℕ → ℕ
 timesAlpha a = cond (ltb a 128) (a * 2) ((a * 2 - 256) ⊕ 0x1d)

@@ -72,6 +72,6 @@ fn plain_audits(image: &mut &[u8]) {
 
 pub fn headers() {
     let mut images: Vec<_> = std::iter::repeat_with(image).take(PLACES).collect();
-    let row = Row { what: "audit, by doubling".to_string(), bytes: HEADERS * 6, target: None };
+    let row = Row { what: "audit, by doubling".to_string(), bytes: HEADERS * 6, target: Some(1.5) };
     row.print(&mut images, audits, plain_audits);
 }
