@@ -11,7 +11,6 @@
 #define STORED 2064
 #define HEADER 6
 #define SECTORS 4
-#define RAW_2064 2
 /* Correct headers with all changes of one byte, other correct ones, and random ones. */
 #define CHANGED 1000
 #define OTHERS 500000
@@ -20,7 +19,7 @@
 scarletbook_audit_answer before_audit(uint32_t format, const uint8_t *image, size_t image_len, uint32_t lsn);
 
 static uint8_t image[SECTORS * STORED];
-static unsigned long cases, differences, refused, verdicts[256];
+static unsigned long cases, differences, refusals[256], verdicts[256];
 
 static void show(uint32_t format, size_t image_len, size_t lsn)
 {
@@ -41,10 +40,8 @@ static void audit(uint32_t format, size_t image_len, uint32_t lsn)
     scarletbook_audit_answer before = before_audit(format, image, image_len, lsn);
 
     cases++;
-    if (now.refusal != 0)
-        refused++;
-    else
-        verdicts[now.verdict]++;
+    refusals[now.refusal]++;
+    verdicts[now.verdict]++;
     if ((now.refusal != before.refusal || now.verdict != before.verdict) && differences++ == 0) {
         show(format, image_len, lsn);
         printf("refusal %u and verdict %u, before %u and %u\n", now.refusal, now.verdict, before.refusal,
@@ -58,7 +55,7 @@ static void audit_header(const uint8_t *header)
     uint32_t lsn = (uint32_t)(cases % SECTORS);
 
     memcpy(image + lsn * STORED, header, HEADER);
-    audit(RAW_2064, sizeof image, lsn);
+    audit(SCARLETBOOK_RAW2064, sizeof image, lsn);
 }
 
 static uint64_t state = 1;
@@ -116,8 +113,8 @@ static void audit_refused(void)
         for (j = 0; j < 3; j++)
             audit(formats[i], sizeof image, sectors[j]);
     for (j = 0; j < 3; j++) {
-        audit(RAW_2064, 0, sectors[j]);
-        audit(RAW_2064, STORED - 1, sectors[j]);
+        audit(SCARLETBOOK_RAW2064, 0, sectors[j]);
+        audit(SCARLETBOOK_RAW2064, STORED - 1, sectors[j]);
     }
 }
 
@@ -132,13 +129,15 @@ static void print_class(const char *name)
 static int report(void)
 {
     unsigned long sound = verdicts[SCARLETBOOK_SOUND], blank = verdicts[SCARLETBOOK_BLANK];
-    unsigned long unsound = verdicts[SCARLETBOOK_UNSOUND];
+    unsigned long unsound = verdicts[SCARLETBOOK_UNSOUND], foreign = refusals[SCARLETBOOK_FOREIGN_FORMAT];
+    unsigned long no_header = refusals[SCARLETBOOK_NO_HEADER], no_entry = refusals[SCARLETBOOK_NO_SUCH_ENTRY];
 
-    printf("%lu sound, %lu blank, %lu unsound, %lu refused\n", sound, blank, unsound, refused);
+    printf("%lu sound, %lu blank, %lu unsound; %lu refused 1, %lu refused 11, %lu refused 8\n", sound, blank, unsound,
+           foreign, no_header, no_entry);
     printf("as-before: %lu audits, %lu differences\n", cases, differences);
     if (differences > 0)
         return 1;
-    return sound && blank && unsound && refused ? 0 : 2;
+    return sound && blank && unsound && foreign && no_header && no_entry ? 0 : 2;
 }
 
 int main(void)
