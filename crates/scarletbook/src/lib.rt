@@ -14,10 +14,12 @@ ghost use Rattle.area.specs.Timecode.{frameNumber};
 ghost use Rattle.disc.specs.Detect.{detected};
 ghost use Rattle.disc.specs.Disc.{readDisc};
 ghost use Rattle.disc.specs.TextDecode.{discTextIn, areaTextOn, trackTextAt};
-ghost use Rattle.sectors.specs.Audit.{HeaderIn, soundVerdict, blankVerdict, unsoundVerdict, auditOf};
+ghost use Rattle.sectors.specs.Audit.{HeaderIn, soundVerdict, blankVerdict, unsoundVerdict, auditOf, headerAt};
 ghost use Rattle.sectors.specs.Header.{Sound, Blank, Unsound};
 ghost use Rattle.sectors.specs.Fnv.{digestOf, fingerprintOf};
+ghost use Rattle.sectors.specs.Mend.{Mends, Mendable, BeyondMending, ComesBack, mendOf};
 ghost use Rattle.sectors.specs.Number.{beAt};
+ghost use Rattle.sectors.specs.Refusal.{beyondMending};
 ghost use Rattle.sectors.specs.Run.{readRefusal, readInto, comparisonOf};
 ghost use Rattle.sectors.specs.Sector.{sectorCount, readable};
 ghost use Rattle.text.specs.Charset.{charsetOf};
@@ -39,6 +41,7 @@ use disc::detect::DetectAnswer;
 use disc::master::MasterToc;
 use sectors::fnv::FingerprintAnswer;
 use sectors::header::AuditAnswer;
+use sectors::mend::Mended;
 use sectors::run::Comparison;
 use sectors::sector::Lsn;
 use text::decode::DecodeAnswer;
@@ -149,6 +152,18 @@ pub extern "C" fn scarletbook_audit(format: u32, image: &[u8], lsn: Lsn) -> Audi
 {
     let answer = sectors::header::audit(format, image, lsn);
     sectors::header::audit_answer(answer)
+}
+
+// Mends the header of a sector: the multiple of the polynomial that differs from it in at most one place. The image is not written.
+#[no_mangle]
+pub extern "C" fn scarletbook_mend(format: u32, image: &[u8], lsn: Lsn) -> Mended
+    ensures answer { λ r. ⌜ r ≡ mendOf format (now (image .entry)) (lsn .0) ⌝ }
+    ensures mendable { λ r. ⌜ (r .refusal ≡ 0) ↔ HeaderIn Mendable format (now (image .entry)) (lsn .0) ⌝ }
+    ensures mends { λ r. ⌜ (r .refusal ≡ 0 → Mends (headerAt (now (image .entry)) (lsn .0)) (r .header)) ⌝ }
+    ensures beyond { λ r. ⌜ (r .refusal ≡ beyondMending) ↔ HeaderIn BeyondMending format (now (image .entry)) (lsn .0) ⌝ }
+    ensures comes_back { λ r. ⌜ ComesBack format (now (image .entry)) (lsn .0) r ⌝ }
+{
+    sectors::mend::mend(format, image, lsn)
 }
 
 // How many bytes the string at a place has; they stand there in the table.

@@ -55,13 +55,17 @@ headerSize = 4 + 2
 unfoldable pub headerAt : List ℕ → ℕ → List ℕ
 headerAt image lsn = part (lsn * storedSize headerFormat) headerSize image
 
--- "audit 1, 11, 8": "format is not 0 .., 1 .., 2 ..", "audit of format 0 or 1", "sector not in the image"
-unfoldable pub auditOf : ℕ → List ℕ → ℕ → AuditAnswer
-auditOf format image lsn =
-    cond (foreign format) (refused foreignFormat)
+-- "audit 1, 11, 8": "format is not 0 .., 1 .., 2 ..", "audit of format 0 or 1", "sector not in the image"; else what is said of the header. 02, item 7,
+-- of mending: "Checks: the audit's"
+unfoldable pub headerOr : {A : Type 0} → (ℕ → A) → (List ℕ → A) → ℕ → List ℕ → ℕ → A
+headerOr refuse say format image lsn =
+    cond (foreign format) (refuse foreignFormat)
     (cond (eqb format headerFormat)
-    (cond (readable format (length image) lsn 1) (judged (verdictOf (headerAt image lsn))) (refused noSuchEntry))
-    (refused noHeader))
+    (cond (readable format (length image) lsn 1) (say (headerAt image lsn)) (refuse noSuchEntry))
+    (refuse noHeader))
+
+unfoldable pub auditOf : ℕ → List ℕ → ℕ → AuditAnswer
+auditOf format image lsn = headerOr refused (λ h. judged (verdictOf h)) format image lsn
 
 -- The sector is one of an image that has headers, and P holds of its header.
 pub record HeaderIn (P : List ℕ → Type 0) (format : ℕ) (image : List ℕ) (lsn : ℕ) : Type 0 where

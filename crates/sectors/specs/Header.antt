@@ -5,8 +5,14 @@ use Prim.Native.Nat.{ℕ, _<_}
 use mathlib.Core.Bool.{Bool, _&&_, not}
 use mathlib.Core.List.{List, [], _∷_, foldl}
 use lib.Dec.{eqb}
+use lib.ListN.{length, getD}
 use Rattle.sectors.specs.Bytes.{same}
 use Rattle.sectors.specs.Field.{_⊕_, timesAlpha}
+
+-- "the six", of any header
+pub record SixBytes (h : List ℕ) : Type 0 where
+  pub its-length : length h ≡ 6
+  pub its-bytes : (i : ℕ) → getD h i 0 < 256
 
 -- A polynomial times x + r, where `times` is the product with r and `last` the coefficient before.
 unfoldable pub timesRoot : (ℕ → ℕ) → ℕ → List ℕ → List ℕ

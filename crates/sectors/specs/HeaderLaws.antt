@@ -6,13 +6,12 @@ use mathlib.Core.Logic.{_↔_}
 use mathlib.Core.Bool.{true, not, and-eq-true-iff}
 use Prim.Native.Nat.{ℕ, _<_}
 use lib.Dec.{eqb}
-use lib.ListN.{getD, length}
 use borrow.Author.Tests.{eqb-true, not-true}
 use native.Mathlib.Omega.{arith}
 use Rattle.sectors.specs.BytesLaws.{same-eq, same-refl}
 use Rattle.sectors.specs.CheckLaws.{fails}
 use Rattle.sectors.specs.Field.{_⊕_, timesAlpha}
-use Rattle.sectors.specs.Header.{timesRoot, product, Multiple, Blank, Sound, Unsound, sixZeros, atOne, atAlpha, isMultiple, isBlank, isSound}
+use Rattle.sectors.specs.Header.{SixBytes, timesRoot, product, Multiple, Blank, Sound, Unsound, sixZeros, atOne, atAlpha, isMultiple, isBlank, isSound}
 use Rattle.sectors.specs.XorLaws.{sums, sum-lt, zero-sum, equal-if-zero}
 use Rattle.sectors.specs.AlphaLaws.{linear, alpha-zero, alpha-lt, only-zero-stays}
 use Rattle.sectors.specs.TableLaws.{values, places}
@@ -64,19 +63,25 @@ module _ (h₀ h₁ h₂ h₃ h₄ h₅ : ℕ) (h₀-lt : h₀ < 256) (h₁-lt :
       let divided : timesRoot timesAlpha 0 (h₀ ∷ p₂ ∷ p₃ ∷ p₄ ∷ p₅ ∷ []) ≡ six = rw last (simp (sums, alpha-zero)) in
       rw divided at (zero-at-one-multiple h₀ p₂ p₃ p₄ p₅ h₀-lt p₂-lt p₃-lt p₄-lt p₅-lt (ap atOne divided ∙ zero-at-one))
 
-zeros-multiple : (h : List ℕ) → length h ≡ 6 → ((i : ℕ) → getD h i 0 < 256) → atOne h ≡ 0 → atAlpha h ≡ 0 → Multiple h
+pub zeros-multiple : (h : List ℕ) → SixBytes h → atOne h ≡ 0 → atAlpha h ≡ 0 → Multiple h
 unfolding values
-zeros-multiple h long byte = rw (places h 6 long) (six-zeros-multiple _ _ _ _ _ _ (byte 0) (byte 1) (byte 2) (byte 3) (byte 4))
+zeros-multiple h six =
+    let byte = six .its-bytes in
+    rw (places h 6 (six .its-length)) (six-zeros-multiple _ _ _ _ _ _ (byte 0) (byte 1) (byte 2) (byte 3) (byte 4))
+
+multiple-passes : (h : List ℕ) → Multiple h → isMultiple h ≡ true
+multiple-passes h q = rw (q .multiple) at (product-passes (q .a) (q .b) (q .c) (q .d) (q .a-byte) (q .b-byte) (q .c-byte) (q .d-byte))
+
+both-zero : (h : List ℕ) → isMultiple h ≡ true → (atOne h ≡ 0) × (atAlpha h ≡ 0)
+unfolding isMultiple
+both-zero h e = let zeros = and-eq-true-iff (eqb (atOne h) 0) (eqb (atAlpha h) 0) .0 e in (eqb-true _ _ (zeros .0), eqb-true _ _ (zeros .1))
+
+pub multiple-zeros : (h : List ℕ) → Multiple h → (atOne h ≡ 0) × (atAlpha h ≡ 0)
+multiple-zeros h q = both-zero h (multiple-passes h q)
 
 -- the test finds the multiples, of any six bytes, and only them
-pub finds-multiples : (h : List ℕ) → length h ≡ 6 → ((i : ℕ) → getD h i 0 < 256) → isMultiple h ≡ true ↔ Multiple h
-unfolding isMultiple
-finds-multiples h long byte = (
-  (λ e.
-      let zeros = and-eq-true-iff (eqb (atOne h) 0) (eqb (atAlpha h) 0) .0 e in
-      zeros-multiple h long byte (eqb-true _ _ (zeros .0)) (eqb-true _ _ (zeros .1))),
-  (λ q. rw (q .multiple) at (product-passes (q .a) (q .b) (q .c) (q .d) (q .a-byte) (q .b-byte) (q .c-byte) (q .d-byte))),
-)
+pub finds-multiples : (h : List ℕ) → SixBytes h → isMultiple h ≡ true ↔ Multiple h
+finds-multiples h six = ((λ e. let zeros = both-zero h e in zeros-multiple h six (zeros .0) (zeros .1)), multiple-passes h)
 
 -- "blank being exactly those six zeros"
 pub finds-blanks : (h : List ℕ) → isBlank h ≡ true ↔ Blank h
@@ -105,10 +110,10 @@ blank-not-unsound h b u = u .no-multiple (blank-multiple h b)
 
 -- "It is sound when the six, first byte highest, are a multiple of (x + 1)(x + α)", but for blank ones: of any six bytes the test passes where they
 -- are sound, and only there.
-pub decides : (h : List ℕ) → length h ≡ 6 → ((i : ℕ) → getD h i 0 < 256) → isSound h ≡ true ↔ Sound h
+pub decides : (h : List ℕ) → SixBytes h → isSound h ≡ true ↔ Sound h
 unfolding isSound
-decides h long byte =
-    let multiple = finds-multiples h long byte in
+decides h six =
+    let multiple = finds-multiples h six in
     let blank = fails (isBlank h) (finds-blanks h) in
     let both = and-eq-true-iff (isMultiple h) (not (isBlank h)) in (
       (λ e. record { is-multiple = multiple .0 (both .0 e .0); not-blank = blank .0 (not-true (isBlank h) (both .0 e .1)) }),

@@ -26,4 +26,10 @@ pub mod Header
 pub mod HeaderLaws
 pub mod Audit
 pub mod AuditLaws
+pub mod Log
+pub mod LogLaws
+pub mod Mend
+pub mod ChangeLaws
+pub mod DistanceLaws
+pub mod MendLaws
 pub mod Fnv

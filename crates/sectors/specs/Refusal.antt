@@ -1,4 +1,4 @@
--- The numbers of refusals (01, "What the desk gets back") that this layer gives; 0 where nothing is refused.
+-- The numbers of refusals (01, "What the desk gets back"; 02, item 7) that this layer gives; 0 where nothing is refused.
 use Prim.Native.Nat.{ℕ}
 
 -- "1 | foreign format | format is not 0 (`Plain`), 1 (`Raw2054`), 2 (`Raw2064`)"
@@ -16,3 +16,7 @@ noSuchEntry = 8
 -- "11 | no header | audit of format 0 or 1"
 abbrev pub noHeader : ℕ
 noHeader = 11
+
+-- 02, item 7: "14, beyond mending, exactly when no such header exists"
+abbrev pub beyondMending : ℕ
+beyondMending = 14

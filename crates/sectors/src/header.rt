@@ -46,7 +46,7 @@ pub struct AuditAnswer {
 }
 
 // The value at 1 of the polynomial whose coefficients are bytes, the first the highest.
-fn at_one(h: &[u8]) -> u8
+pub(crate) fn at_one(h: &[u8]) -> u8
     ensures { λ r. ⌜ r ≡ atOne (now (h .entry)) ⌝ }
 {
     let mut v = 0;
@@ -59,7 +59,7 @@ fn at_one(h: &[u8]) -> u8
 }
 
 // Its value at α.
-fn at_alpha(h: &[u8]) -> u8
+pub(crate) fn at_alpha(h: &[u8]) -> u8
     ensures { λ r. ⌜ r ≡ atAlpha (now (h .entry)) ⌝ }
 {
     let mut v = 0;

@@ -1,7 +1,9 @@
 -- `sectors::header::audit` meets its contract: each answer has the number that the tests before it give, and means what it says by that. Assumes
 -- nothing.
 use denote.Ref.{now}
-use Rattle.sectors.proofs.AuditCases.{right, foreign-answer, no-header-answer, missing-answer, header-there, six-long, blank-answer, sound-answer, unsound-answer}
+use Rattle.sectors.specs.Audit.{answerOf, auditOf}
+use Rattle.sectors.proofs.HeaderCases.{foreign-answer, no-header-answer, missing-answer, header-there, six-long}
+use Rattle.sectors.proofs.AuditCases.{right, blank-answer, sound-answer, unsound-answer}
 use borrow.Author.Needs.{needs}
 use Rattle.sectors.proofs.header.audit.Statement.{statement}
 use Rattle.sectors.proofs.header.audit.Tie as tie
@@ -10,20 +12,23 @@ is-foreign-requires : tie.Need-is-foreign-requires
 is-foreign-requires c κs = search needs
 
 returns : tie.Need-returns
-returns c = right _ _ _ (c .before .before .shared-slice-known .given) _ (foreign-answer _ _ _ (c .before .is-foreign .ensures) (c .if1 .taken))
+unfolding answerOf auditOf
+returns c = right _ _ _ (c .before .before .shared-slice-known .given) _ (foreign-answer _ _ _ _ _ (c .before .is-foreign .ensures) (c .if1 .taken))
 
 returns-2 : tie.Need-returns-2
+unfolding answerOf auditOf
 returns-2 c =
     let known = c .before .before in
-    right _ _ _ (known .before .shared-slice-known .given) _ (no-header-answer _ _ _ (known .is-foreign .ensures) (c .before .if1 .left) (c .if2 .taken))
+    right _ _ _ (known .before .shared-slice-known .given) _ (no-header-answer _ _ _ _ _ (known .is-foreign .ensures) (c .before .if1 .left) (c .if2 .taken))
 
 contains-requires : tie.Need-contains-requires
 contains-requires c κs = search needs
 
 returns-3 : tie.Need-returns-3
+unfolding answerOf auditOf
 returns-3 c =
     let two = c .before .before in
-    right _ _ _ (two .before .before .before .shared-slice-known .given) _ (missing-answer _ _ _ (two .if2 .left) (c .before .contains .ensures) (c .if3 .taken))
+    right _ _ _ (two .before .before .before .shared-slice-known .given) _ (missing-answer _ _ _ _ _ (two .if2 .left) (c .before .contains .ensures) (c .if3 .taken))
 
 cast-stored-part : tie.Need-cast-stored-part
 cast-stored-part c = search needs

@@ -1,0 +1,93 @@
+// Mending a header: the multiple of (x + 1)(x + α) that differs from it in at most one place.
+ghost use mathlib.Core.Path.{_≡_};
+ghost use mathlib.Core.Logic.{_↔_};
+ghost use Prim.Native.Nat.{_<_};
+ghost use lib.ListN.{length, getD, set};
+ghost use Rattle.sectors.specs.Refusal.{beyondMending};
+ghost use Rattle.sectors.specs.Field.{_⊕_};
+ghost use Rattle.sectors.specs.Audit.{HeaderIn, headerAt};
+ghost use Rattle.sectors.specs.Mend.{Mends, Mendable, BeyondMending, ComesBack, mendedTo, unmended, mendedOf, mendOf};
+use crate::header::HEADER_FORMAT;
+use crate::header::HEADER_SIZE;
+use crate::header::at_alpha;
+use crate::header::at_one;
+use crate::log::least_exponent;
+use crate::refusal::BEYOND_MENDING;
+use crate::refusal::FOREIGN_FORMAT;
+use crate::refusal::NO_HEADER;
+use crate::refusal::NO_SUCH_ENTRY;
+use crate::sector::Lsn;
+use crate::sector::contains;
+use crate::sector::is_foreign;
+use crate::sector::stored_part;
+
+// The header that a sector's mends to, or a refusal and zeros.
+#[repr(C)]
+pub struct Mended {
+    pub refusal: u8,
+    pub header: [u8; HEADER_SIZE],
+}
+
+fn mended_to(header: [u8; HEADER_SIZE]) -> Mended
+    ensures { λ r. ⌜ r ≡ mendedTo header ⌝ }
+{
+    Mended { refusal: 0, header }
+}
+
+fn unmended(refusal: u8) -> Mended
+    ensures { λ r. ⌜ r ≡ unmended refusal ⌝ }
+{
+    let header = [0u8; HEADER_SIZE];
+    Mended { refusal, header }
+}
+
+// Six bytes by value.
+fn six(h: &[u8]) -> [u8; HEADER_SIZE]
+    requires { ⌜ length (now h) ≡ 6 ⌝ }
+    ensures { λ r. ⌜ r ≡ now (h .entry) ⌝ }
+{
+    [h[0], h[1], h[2], h[3], h[4], h[5]]
+}
+
+// A header with the byte at a place changed by a sum.
+fn changed(h: [u8; HEADER_SIZE], place: usize, change: u8) -> [u8; HEADER_SIZE]
+    requires { ⌜ place < 6 ⌝ }
+    ensures { λ r. ⌜ r ≡ set h place (getD h place 0 ⊕ change) ⌝ }
+{
+    let mut m = h;
+    m[place] = m[place] ^ change;
+    m
+}
+
+// Mends six bytes. If one is bad, their value at 1 is its change, and their value at α that change times α to the number of bytes behind it.
+fn mend_bytes(h: &[u8]) -> Mended
+    requires { ⌜ length (now h) ≡ 6 ⌝ }
+    ensures { λ r. ⌜ r ≡ mendedOf (now (h .entry)) ⌝ }
+{
+    let change = at_one(h);
+    let behind = least_exponent(change, at_alpha(h));
+    if HEADER_SIZE <= behind {
+        return unmended(BEYOND_MENDING);
+    }
+    mended_to(changed(six(h), HEADER_SIZE - 1 - behind, change))
+}
+
+// Mends the header of a sector, which is not written.
+pub fn mend(format: u32, image: &[u8], lsn: Lsn) -> Mended
+    ensures answer { λ r. ⌜ r ≡ mendOf format (now (image .entry)) (lsn .0) ⌝ }
+    ensures mendable { λ r. ⌜ (r .refusal ≡ 0) ↔ HeaderIn Mendable format (now (image .entry)) (lsn .0) ⌝ }
+    ensures mends { λ r. ⌜ (r .refusal ≡ 0 → Mends (headerAt (now (image .entry)) (lsn .0)) (r .header)) ⌝ }
+    ensures beyond { λ r. ⌜ (r .refusal ≡ beyondMending) ↔ HeaderIn BeyondMending format (now (image .entry)) (lsn .0) ⌝ }
+    ensures comes_back { λ r. ⌜ ComesBack format (now (image .entry)) (lsn .0) r ⌝ }
+{
+    if is_foreign(format) {
+        return unmended(FOREIGN_FORMAT);
+    }
+    if format != HEADER_FORMAT {
+        return unmended(NO_HEADER);
+    }
+    if !contains(format, image.len(), lsn, 1) {
+        return unmended(NO_SUCH_ENTRY);
+    }
+    mend_bytes(stored_part(format, image, lsn.0 as usize, 0, HEADER_SIZE))
+}
