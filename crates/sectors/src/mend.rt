@@ -6,7 +6,7 @@ ghost use lib.ListN.{length, getD, set};
 ghost use Rattle.sectors.specs.Refusal.{beyondMending};
 ghost use Rattle.sectors.specs.Field.{_⊕_};
 ghost use Rattle.sectors.specs.Audit.{HeaderIn, headerAt};
-ghost use Rattle.sectors.specs.Mend.{Mends, Mendable, BeyondMending, ComesBack, mendedTo, unmended, mendedOf, mendOf};
+ghost use Rattle.sectors.specs.Mend.{Mends, Mendable, BeyondMending, ComesBack, unmended, mendedOf, mendOf};
 use crate::header::HEADER_FORMAT;
 use crate::header::HEADER_SIZE;
 use crate::header::at_alpha;
@@ -28,12 +28,6 @@ pub struct Mended {
     pub header: [u8; HEADER_SIZE],
 }
 
-fn mended_to(header: [u8; HEADER_SIZE]) -> Mended
-    ensures { λ r. ⌜ r ≡ mendedTo header ⌝ }
-{
-    Mended { refusal: 0, header }
-}
-
 fn unmended(refusal: u8) -> Mended
     ensures { λ r. ⌜ r ≡ unmended refusal ⌝ }
 {
@@ -41,20 +35,12 @@ fn unmended(refusal: u8) -> Mended
     Mended { refusal, header }
 }
 
-// Six bytes by value.
-fn six(h: &[u8]) -> [u8; HEADER_SIZE]
-    requires { ⌜ length (now h) ≡ 6 ⌝ }
-    ensures { λ r. ⌜ r ≡ now (h .entry) ⌝ }
+// Six bytes by value, with the one at a place changed by a sum.
+fn changed(h: &[u8], place: usize, change: u8) -> [u8; HEADER_SIZE]
+    requires { ⌜ (length (now h) ≡ 6) × (place < 6) ⌝ }
+    ensures { λ r. ⌜ r ≡ set (now (h .entry)) place (getD (now (h .entry)) place 0 ⊕ change) ⌝ }
 {
-    [h[0], h[1], h[2], h[3], h[4], h[5]]
-}
-
-// A header with the byte at a place changed by a sum.
-fn changed(h: [u8; HEADER_SIZE], place: usize, change: u8) -> [u8; HEADER_SIZE]
-    requires { ⌜ place < 6 ⌝ }
-    ensures { λ r. ⌜ r ≡ set h place (getD h place 0 ⊕ change) ⌝ }
-{
-    let mut m = h;
+    let mut m = [h[0], h[1], h[2], h[3], h[4], h[5]];
     m[place] = m[place] ^ change;
     m
 }
@@ -69,7 +55,8 @@ fn mend_bytes(h: &[u8]) -> Mended
     if HEADER_SIZE <= behind {
         return unmended(BEYOND_MENDING);
     }
-    mended_to(changed(six(h), HEADER_SIZE - 1 - behind, change))
+    let header = changed(h, HEADER_SIZE - 1 - behind, change);
+    Mended { refusal: 0, header }
 }
 
 // Mends the header of a sector, which is not written.

@@ -1,11 +1,7 @@
 -- `sectors::mend::mend_bytes` meets its contract: by the exponent that is found a header mends, or none does. Assumes nothing.
 use mathlib.Core.Path.{ap, _∙_}
-use mathlib.Core.List.{List}
-use Prim.Native.Nat.{ℕ, _-_}
 use native.Mathlib.Omega.{arith}
-use lib.ListN.{getD, set}
 use borrow.Author.Needs.{needs}
-use Rattle.sectors.specs.Field.{_⊕_}
 use Rattle.sectors.specs.Mend.{mendedTo}
 use Rattle.sectors.proofs.HeaderCases.{known-six}
 use Rattle.sectors.proofs.Mending.{beyond-answer, changed-answer}
@@ -32,9 +28,6 @@ returns c =
     c .unmended .ensures
     ∙ beyond-answer _ six (one .at-one .ensures) (alpha .at-alpha .ensures) (exponent .least-exponent .ensures) (c .before .if1 .taken)
 
-six-requires : tie.Need-six-requires
-six-requires c κs = search needs
-
 sub-changed : tie.Need-sub-changed
 sub-changed c = search needs
 
@@ -44,19 +37,13 @@ sub-changed-2 c = search needs
 changed-requires : tie.Need-changed-requires
 changed-requires c κs = search needs
 
-mended-to-requires : tie.Need-mended-to-requires
-mended-to-requires c κs = search needs
-
 returns-2 : tie.Need-returns-2
 returns-2 c =
-    let by-value = c .before .before in let exponent = by-value .before .before in let alpha = exponent .before in
+    let exponent = c .before .before in let alpha = exponent .before in
     let one = alpha .before in let known = one .before in
     let six = known-six _ (known .before .pre) (known .shared-slice-known .given) in
-    let place = 5 - exponent .least-exponent .result in
-    let change = one .at-one .result in
-    c .mended-to .ensures
-    ∙ ap mendedTo (c .before .changed .ensures ∙ ap (λ (h : List ℕ). set h place (getD h place 0 ⊕ change)) (by-value .six .ensures))
-    ∙ changed-answer _ six (one .at-one .ensures) (alpha .at-alpha .ensures) (exponent .least-exponent .ensures) (by-value .before .if1 .left) (omega arith)
+    ap mendedTo (c .changed .ensures)
+    ∙ changed-answer _ six (one .at-one .ensures) (alpha .at-alpha .ensures) (exponent .least-exponent .ensures) (c .before .if1 .left) (omega arith)
 
 pub mend-bytes-spec : {M : Type 1} → statement M
 mend-bytes-spec =
@@ -67,9 +54,7 @@ mend-bytes-spec =
     least-exponent-requires
     unmended-requires
     returns
-    six-requires
     sub-changed
     sub-changed-2
     changed-requires
-    mended-to-requires
     returns-2)
