@@ -1,6 +1,6 @@
 -- Mending as the program does it: where the power of α is found that takes a header's value at 1 to its value at α, the byte that it tells is changed, and the
 -- header so changed mends; where there is none, no header does. An answer with the number of the definition means what the contract says. Assumes nothing.
-use mathlib.Core.Path.{_≡_, sym, _∙_}
+use mathlib.Core.Path.{_≡_, sym, ap, _∙_}
 use mathlib.Core.List.{List}
 use mathlib.Core.Logic.{_↔_}
 use Prim.Native.Nat.{ℕ, suc, _-_, _<_, _≤_}
@@ -18,9 +18,13 @@ use Rattle.sectors.specs.Mend.{Mends, Mendable, BeyondMending, ComesBack
 use Rattle.sectors.specs.XorLaws.{sum-lt, sum-self}
 use Rattle.sectors.specs.HeaderLaws.{zeros-multiple}
 use Rattle.sectors.specs.ChangeLaws.{one-changed, alpha-changed}
-use Rattle.sectors.specs.DistanceLaws.{six-set, alpha-tells-place}
+use Rattle.sectors.specs.DistanceLaws.{six-set, unchanged, alpha-tells-place}
 use Rattle.sectors.specs.MendLaws.{found, lost, mend-means}
 use Rattle.sectors.specs.declared.mend.Mended.{Mended}
+
+-- a header changed by s at the place that n bytes stand behind
+abbrev pub changedAt : ℕ → ℕ → List ℕ → List ℕ
+changedAt n s h = set h (5 - n) (getD h (5 - n) 0 ⊕ s)
 
 -- six bytes, their values at 1 and at α, and the exponent that the program finds
 module _ (h : List ℕ) (six : SixBytes h) {s t n : ℕ} (at-one : s ≡ atOne h) (at-alpha : t ≡ atAlpha h) (least : LeastExponent s t n) where
@@ -33,36 +37,34 @@ module _ (h : List ℕ) (six : SixBytes h) {s t n : ℕ} (at-one : s ≡ atOne h
             omega (arith, q .inside, least .is-least (5 - q .place) takes);
       }))
 
-  module _ (near : n < 6) (s-lt : s < 256) where
-    abbrev place : ℕ
-    place = 5 - n
-
-    abbrev changed : List ℕ
-    changed = set h place (getD h place 0 ⊕ s)
-
-    inside : place < length h
+  module _ (near : n < 6) where
+    inside : 5 - n < length h
     inside = omega (arith, six .its-length)
 
-    changed-six : SixBytes changed
-    changed-six = six-set h place _ six (sum-lt (six .its-bytes place) s-lt)
+    module _ (s-lt : s < 256) where
+      changed-six : SixBytes (changedAt n s h)
+      changed-six = six-set h (5 - n) _ six (sum-lt (six .its-bytes (5 - n)) s-lt)
 
-    zero-at-one : atOne changed ≡ 0
-    zero-at-one = one-changed h (six .its-bytes) place s s-lt inside ∙ (rw (← at-one) (sum-self s))
+      zero-at-one : atOne (changedAt n s h) ≡ 0
+      zero-at-one = one-changed h (six .its-bytes) (5 - n) s s-lt inside ∙ (rw (← at-one) (sum-self s))
 
-    zero-at-alpha : atAlpha changed ≡ 0
-    zero-at-alpha =
-        let behind : length h - suc place ≡ n = omega (arith, six .its-length) in
-        alpha-changed h (six .its-bytes) place s s-lt inside ∙ (rw (behind, least .takes (omega arith), ← at-alpha) (sum-self t))
+      zero-at-alpha : atAlpha (changedAt n s h) ≡ 0
+      zero-at-alpha =
+          let behind : length h - suc (5 - n) ≡ n = omega (arith, six .its-length) in
+          alpha-changed h (six .its-bytes) (5 - n) s s-lt inside ∙ (rw (behind, least .takes (omega arith), ← at-alpha) (sum-self t))
 
-    pub changed-answer : mendedTo changed ≡ mendedOf h
-    changed-answer =
-        sym (found h six changed (record {
-          six-bytes = changed-six;
-          is-multiple = zeros-multiple changed changed-six zero-at-one zero-at-alpha;
-          place = place;
-          inside = omega arith;
-          equal-but = λ i other. sym (getD-set-other h place i _ 0 other);
-        }))
+      pub changed-answer : mendedTo (changedAt n s h) ≡ mendedOf h
+      changed-answer =
+          sym (found h six (changedAt n s h) (record {
+            six-bytes = changed-six;
+            is-multiple = zeros-multiple (changedAt n s h) changed-six zero-at-one zero-at-alpha;
+            place = 5 - n;
+            inside = omega arith;
+            equal-but = λ i other. sym (getD-set-other h (5 - n) i _ 0 other);
+          }))
+
+    pub unchanged-answer : s ≡ 0 → mendedTo h ≡ mendedOf h
+    unchanged-answer none = ap mendedTo (sym (unchanged h (5 - n) none)) ∙ changed-answer (omega arith)
 
 -- what the contract of `mend` says of an answer
 module _ (format : ℕ) (image : List ℕ) (lsn : ℕ) where

@@ -48,6 +48,10 @@ set-equal h m k long inside equal =
     (λ other. getD-set-other h k i _ 0 other ∙ equal i other)
     (or-other i k))
 
+-- a byte changed by nothing
+pub unchanged : (h : List ℕ) (k : ℕ) {s : ℕ} → s ≡ 0 → set h k (getD h k 0 ⊕ s) ≡ h
+unchanged h k none = ap (λ (n : ℕ). set h k (getD h k 0 ⊕ n)) none ∙ ap (set h k) (sum-zero (getD h k 0)) ∙ set-getD h k 0
+
 -- a multiple is six bytes
 root-length : (times : ℕ → ℕ) (last : ℕ) (q : List ℕ) → length (timesRoot times last q) ≡ suc (length q)
 unfolding timesRoot
@@ -125,13 +129,10 @@ module _ (h m : List ℕ) (six : SixBytes h) (q : Mends h m) where
 pub only-one : (h m n : List ℕ) → SixBytes h → Mends h m → Mends h n → m ≡ n
 only-one h m n six p q =
     ⊎-elim
-    (λ none. sym (changed-by-one h m six p) ∙ unchanged none (p .place) ∙ sym (unchanged none (q .place)) ∙ changed-by-one h n six q)
+    (λ none. sym (changed-by-one h m six p) ∙ unchanged h (p .place) none ∙ sym (unchanged h (q .place) none) ∙ changed-by-one h n six q)
     (λ e. sym (changed-by-one h m six p) ∙ ap (λ (k : ℕ). set h k (getD h k 0 ⊕ atOne h)) (omega arith) ∙ changed-by-one h n six q)
     (powers-differ (atOne h) (5 - p .place) (5 - q .place) (one-lt h m six p) (omega arith) (omega arith)
     (sym (alpha-tells-place h m six p) ∙ alpha-tells-place h n six q))
-  where
-    unchanged : atOne h ≡ 0 → (k : ℕ) → set h k (getD h k 0 ⊕ atOne h) ≡ h
-    unchanged none k = ap (λ (n : ℕ). set h k (getD h k 0 ⊕ n)) none ∙ ap (set h k) (sum-zero (getD h k 0)) ∙ set-getD h k 0
 
 -- Two multiples that differ in at most two places are equal.
 pub multiples-apart : (g m : List ℕ) → Multiple g → Multiple m → (j k : ℕ) → j < 6 → k < 6

@@ -35,12 +35,20 @@ fn unmended(refusal: u8) -> Mended
     Mended { refusal, header }
 }
 
-// Six bytes by value, with the one at a place changed by a sum.
-fn changed(h: &[u8], place: usize, change: u8) -> [u8; HEADER_SIZE]
-    requires { ⌜ (length (now h) ≡ 6) × (place < 6) ⌝ }
-    ensures { λ r. ⌜ r ≡ set (now (h .entry)) place (getD (now (h .entry)) place 0 ⊕ change) ⌝ }
+// Six bytes by value.
+fn six(h: &[u8]) -> [u8; HEADER_SIZE]
+    requires { ⌜ length (now h) ≡ 6 ⌝ }
+    ensures { λ r. ⌜ r ≡ now (h .entry) ⌝ }
 {
-    let mut m = [h[0], h[1], h[2], h[3], h[4], h[5]];
+    [h[0], h[1], h[2], h[3], h[4], h[5]]
+}
+
+// Six bytes with the one at a place changed by a sum.
+fn changed(h: [u8; HEADER_SIZE], place: usize, change: u8) -> [u8; HEADER_SIZE]
+    requires { ⌜ place < 6 ⌝ }
+    ensures { λ r. ⌜ r ≡ set h place (getD h place 0 ⊕ change) ⌝ }
+{
+    let mut m = h;
     m[place] = m[place] ^ change;
     m
 }
@@ -55,7 +63,14 @@ fn mend_bytes(h: &[u8]) -> Mended
     if HEADER_SIZE <= behind {
         return unmended(BEYOND_MENDING);
     }
-    let header = changed(h, HEADER_SIZE - 1 - behind, change);
+    let bytes = six(h);
+    if change == 0 {
+        return Mended {
+            refusal: 0,
+            header: bytes,
+        };
+    }
+    let header = changed(bytes, HEADER_SIZE - 1 - behind, change);
     Mended { refusal: 0, header }
 }
 

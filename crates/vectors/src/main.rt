@@ -1,5 +1,6 @@
-// Published vectors of FNV-1a, and cards of the header audit, the fingerprint, the texts and the areas, written one to a line.
+// Published vectors of FNV-1a, and cards of the header audit, of mending, of the fingerprint, the texts and the areas, written one to a line.
 mod areas;
+mod mends;
 mod texts;
 
 use libc::STDOUT_FILENO;
@@ -20,7 +21,7 @@ fn digest_line(text: &[u8]) {
 }
 
 // A line of a refusal's number; 0 for none.
-fn refusal_line(refusal: u8) {
+pub(crate) fn refusal_line(refusal: u8) {
     io::write_all(STDOUT_FILENO, b"refused ");
     io::print_decimal(STDOUT_FILENO, refusal as u64);
     io::write_all(STDOUT_FILENO, b"\n");
@@ -53,15 +54,21 @@ fn fingerprint_line(format: u32, image: &[u8], lsn: u32) {
     io::write_all(STDOUT_FILENO, b"\n");
 }
 
-// The header of a format 2 image of one sector, and what the audit answers.
+// A sector of format 2 with this header, before zeros.
+pub(crate) fn raw_sector(a: u8, b: u8, c: u8, d: u8, e: u8, f: u8) -> [u8; 2064] {
+    let mut sector = [0u8; 2064];
+    sector[0] = a;
+    sector[1] = b;
+    sector[2] = c;
+    sector[3] = d;
+    sector[4] = e;
+    sector[5] = f;
+    sector
+}
+
+// What the audit answers of the header of a format 2 image of one sector.
 fn header_line(a: u8, b: u8, c: u8, d: u8, e: u8, f: u8) {
-    let mut image = [0u8; 2064];
-    image[0] = a;
-    image[1] = b;
-    image[2] = c;
-    image[3] = d;
-    image[4] = e;
-    image[5] = f;
+    let image = raw_sector(a, b, c, d, e, f);
     audit_line(2, &image, 0);
 }
 
@@ -153,6 +160,7 @@ fn main() {
     read_line(0);
     read_line(1);
     copies();
+    mends::cards();
     texts::cards();
     areas::cards();
 }

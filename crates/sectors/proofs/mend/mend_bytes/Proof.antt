@@ -4,7 +4,7 @@ use native.Mathlib.Omega.{arith}
 use borrow.Author.Needs.{needs}
 use Rattle.sectors.specs.Mend.{mendedTo}
 use Rattle.sectors.proofs.HeaderCases.{known-six}
-use Rattle.sectors.proofs.Mending.{beyond-answer, changed-answer}
+use Rattle.sectors.proofs.Mending.{changedAt, beyond-answer, changed-answer, unchanged-answer}
 use Rattle.sectors.proofs.mend.mend_bytes.Statement.{statement}
 use Rattle.sectors.proofs.mend.mend_bytes.Tie as tie
 
@@ -28,6 +28,17 @@ returns c =
     c .unmended .ensures
     ∙ beyond-answer _ six (one .at-one .ensures) (alpha .at-alpha .ensures) (exponent .least-exponent .ensures) (c .before .if1 .taken)
 
+six-requires : tie.Need-six-requires
+six-requires c κs = search needs
+
+returns-2 : tie.Need-returns-2
+returns-2 c =
+    let exponent = c .before .before .before in let alpha = exponent .before in
+    let one = alpha .before in let known = one .before in
+    let six = known-six _ (known .before .pre) (known .shared-slice-known .given) in
+    ap mendedTo (c .before .six .ensures)
+    ∙ unchanged-answer _ six (one .at-one .ensures) (alpha .at-alpha .ensures) (exponent .least-exponent .ensures) (c .before .before .if1 .left) (c .if2 .taken)
+
 sub-changed : tie.Need-sub-changed
 sub-changed c = search needs
 
@@ -37,13 +48,14 @@ sub-changed-2 c = search needs
 changed-requires : tie.Need-changed-requires
 changed-requires c κs = search needs
 
-returns-2 : tie.Need-returns-2
-returns-2 c =
-    let exponent = c .before .before in let alpha = exponent .before in
-    let one = alpha .before in let known = one .before in
+returns-3 : tie.Need-returns-3
+returns-3 c =
+    let by-value = c .before .before in let exponent = by-value .before .before in
+    let alpha = exponent .before in let one = alpha .before in
+    let known = one .before in
     let six = known-six _ (known .before .pre) (known .shared-slice-known .given) in
-    ap mendedTo (c .changed .ensures)
-    ∙ changed-answer _ six (one .at-one .ensures) (alpha .at-alpha .ensures) (exponent .least-exponent .ensures) (c .before .if1 .left) (omega arith)
+    ap mendedTo (c .changed .ensures ∙ ap (changedAt (exponent .least-exponent .result) (one .at-one .result)) (by-value .six .ensures))
+    ∙ changed-answer _ six (one .at-one .ensures) (alpha .at-alpha .ensures) (exponent .least-exponent .ensures) (by-value .before .if1 .left) (omega arith)
 
 pub mend-bytes-spec : {M : Type 1} → statement M
 mend-bytes-spec =
@@ -54,7 +66,9 @@ mend-bytes-spec =
     least-exponent-requires
     unmended-requires
     returns
+    six-requires
+    returns-2
     sub-changed
     sub-changed-2
     changed-requires
-    returns-2)
+    returns-3)
