@@ -59,6 +59,11 @@ fn refusals() {
     mend_line(1, &image, 1);
     mend_line(0, &image, 0);
     mend_line(2, &image, 1);
+}
+
+// A blank header of a sector that is cut by a byte.
+fn cut() {
+    let image = [0u8; 2064];
     mend_line(2, &image[..2063], 0);
 }
 
@@ -67,4 +72,5 @@ pub(crate) fn cards() {
     blank();
     two_bad_bytes();
     refusals();
+    cut();
 }
