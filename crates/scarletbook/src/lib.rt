@@ -1,8 +1,8 @@
 // What C and Rust link: the functions of the layers below, under names that begin `scarletbook_`. Each hands an answer on.
 ghost use mathlib.Core.Path.{_≡_};
 ghost use mathlib.Core.Logic.{_↔_};
-ghost use mathlib.Core.List.{[], _∷_};
-ghost use Prim.Native.Nat.{_*_, _%_, _^_};
+ghost use mathlib.Core.List.{List, [], _∷_};
+ghost use Prim.Native.Nat.{ℕ, _*_, _%_, _^_};
 ghost use lib.ListN.{length};
 ghost use Rattle.area.specs.Cap.{capOf};
 ghost use Rattle.area.specs.Items.{drawAt};
@@ -17,7 +17,7 @@ ghost use Rattle.disc.specs.TextDecode.{discTextIn, areaTextOn, trackTextAt};
 ghost use Rattle.sectors.specs.Audit.{HeaderIn, soundVerdict, blankVerdict, unsoundVerdict, auditOf, headerAt};
 ghost use Rattle.sectors.specs.Header.{Sound, Blank, Unsound};
 ghost use Rattle.sectors.specs.Fnv.{digestOf, fingerprintOf};
-ghost use Rattle.sectors.specs.Mend.{Mends, Mendable, BeyondMending, ComesBack, mendOf};
+ghost use Rattle.sectors.specs.Mend.{Mends, Mendable, BeyondMending, OneByteChanged, mendedTo, mendOf};
 ghost use Rattle.sectors.specs.Number.{beAt};
 ghost use Rattle.sectors.specs.Refusal.{beyondMending};
 ghost use Rattle.sectors.specs.Run.{readRefusal, readInto, comparisonOf};
@@ -161,7 +161,7 @@ pub extern "C" fn scarletbook_mend(format: u32, image: &[u8], lsn: Lsn) -> Mende
     ensures mendable { λ r. ⌜ (r .refusal ≡ 0) ↔ HeaderIn Mendable format (now (image .entry)) (lsn .0) ⌝ }
     ensures mends { λ r. ⌜ (r .refusal ≡ 0 → Mends (headerAt (now (image .entry)) (lsn .0)) (r .header)) ⌝ }
     ensures beyond { λ r. ⌜ (r .refusal ≡ beyondMending) ↔ HeaderIn BeyondMending format (now (image .entry)) (lsn .0) ⌝ }
-    ensures comes_back { λ r. ⌜ ComesBack format (now (image .entry)) (lsn .0) r ⌝ }
+    ensures comes_back { λ r. ⌜ ((g : List ℕ) → HeaderIn (OneByteChanged g) format (now (image .entry)) (lsn .0) → r ≡ mendedTo g) ⌝ }
 {
     sectors::mend::mend(format, image, lsn)
 }

@@ -14,7 +14,7 @@ use Rattle.sectors.specs.Field.{_⊕_}
 use Rattle.sectors.specs.Header.{SixBytes, atOne, atAlpha}
 use Rattle.sectors.specs.Audit.{HeaderIn, headerAt}
 use Rattle.sectors.specs.Log.{timesPower, LeastExponent}
-use Rattle.sectors.specs.Mend.{Mends, Mendable, BeyondMending, ComesBack, mendedTo, unmended, mendedOf, mendOf}
+use Rattle.sectors.specs.Mend.{Mends, Mendable, BeyondMending, OneByteChanged, mendedTo, unmended, mendedOf, mendOf}
 use Rattle.sectors.specs.XorLaws.{sum-lt, sum-self}
 use Rattle.sectors.specs.HeaderLaws.{zeros-multiple}
 use Rattle.sectors.specs.ChangeLaws.{one-changed, alpha-changed}
@@ -72,7 +72,7 @@ module _ (format : ℕ) (image : List ℕ) (lsn : ℕ) where
       → (r ≡ mendOf format image lsn)
       × ((r .refusal ≡ 0 ↔ HeaderIn Mendable format image lsn)
       × ((r .refusal ≡ 0 → Mends (headerAt image lsn) (r .header))
-      × ((r .refusal ≡ beyondMending ↔ HeaderIn BeyondMending format image lsn) × ComesBack format image lsn r)))
+      × ((r .refusal ≡ beyondMending ↔ HeaderIn BeyondMending format image lsn) × ((correct : List ℕ) → HeaderIn (OneByteChanged correct) format image lsn → r ≡ mendedTo correct))))
   right bytes r e =
       let means = mend-means format image lsn (λ i. omega (arith, bytes i)) in
       (e, rw e (means .mendable-iff, (means .header-mends, (means .beyond-iff, means .changed-back))))

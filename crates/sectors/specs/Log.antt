@@ -5,14 +5,10 @@ use Prim.Native.Nat.{ℕ, zero, suc, _-_, _<_, _≤_}
 use lib.ListN.{getD, set, replicate}
 use Rattle.sectors.specs.Field.{timesAlpha}
 
--- f, n times
-unfoldable pub repeated : (ℕ → ℕ) → ℕ → ℕ → ℕ
-repeated f zero a = a
-repeated f (suc n) a = repeated f n (f a)
-
--- the product with α to the n
-abbrev pub timesPower : ℕ → ℕ → ℕ
-timesPower n a = repeated timesAlpha n a
+-- the product with α to the n: times α, n times over
+unfoldable pub timesPower : ℕ → ℕ → ℕ
+timesPower zero a = a
+timesPower (suc n) a = timesPower n (timesAlpha a)
 
 -- "the 255 nonzero field values"
 abbrev pub nonzeroCount : ℕ

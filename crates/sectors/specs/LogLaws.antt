@@ -14,12 +14,12 @@ use borrow.Author.Tests.{ltb-true, ltb-false}
 use Rattle.sectors.specs.Field.{timesAlpha, _⊕_}
 use Rattle.sectors.specs.TableLaws.{values, agree}
 use Rattle.sectors.specs.AlphaLaws.{alpha-zero, alpha-lt, only-zero}
-use Rattle.sectors.specs.Log.{repeated, timesPower, powersFrom, powers, stored, logs, log, nonzeroCount, LeastExponent}
+use Rattle.sectors.specs.Log.{timesPower, powersFrom, powers, stored, logs, log, nonzeroCount, LeastExponent}
 
 -- ---- the powers of α
 
 powers-at : (a k n : ℕ) → n < k → getD (powersFrom a k) n 0 ≡ timesPower n a
-unfolding powersFrom repeated
+unfolding powersFrom timesPower
 powers-at a zero n h = absurd (omega arith)
 powers-at a (suc k) zero h = refl
 powers-at a (suc k) (suc n) h = powers-at (timesAlpha a) k n (omega arith)
@@ -30,22 +30,22 @@ length-powers a zero = refl
 length-powers a (suc k) = ap suc (length-powers (timesAlpha a) k)
 
 power-zero : (n : ℕ) → timesPower n 0 ≡ 0
-unfolding repeated
+unfolding timesPower
 power-zero zero = refl
 power-zero (suc n) = ap (timesPower n) alpha-zero ∙ power-zero n
 
 power-only-zero : (n a : ℕ) → a < 256 → timesPower n a ≡ 0 → a ≡ 0
-unfolding repeated
+unfolding timesPower
 power-only-zero zero a h e = e
 power-only-zero (suc n) a h e = only-zero a h (power-only-zero n (timesAlpha a) (alpha-lt h) e)
 
 power-add : (m n a : ℕ) → timesPower (m + n) a ≡ timesPower n (timesPower m a)
-unfolding repeated
+unfolding timesPower
 power-add zero n a = ap (λ (k : ℕ). timesPower k a) (zero-add n)
 power-add (suc m) n a = ap (λ (k : ℕ). timesPower k a) (suc-add m n) ∙ power-add m n (timesAlpha a)
 
 comes-round : timesPower nonzeroCount 1 ≡ 1
-unfolding repeated timesAlpha _⊕_
+unfolding timesPower timesAlpha _⊕_
 comes-round = refl
 
 rounds : (q r : ℕ) → timesPower (q * 255 + r) 1 ≡ timesPower r 1
@@ -120,7 +120,7 @@ module _ (a : ℕ) (a-nonzero : 0 < a) (a-byte : a < 256) where
       }
 
 pub same-exponent : (a : ℕ) → LeastExponent a a 0
-unfolding repeated
+unfolding timesPower
 same-exponent a = record { takes = λ h. refl; is-least = λ k e. omega arith }
 
 pub from-zero : (b : ℕ) → 0 ≢ b → LeastExponent 0 b nonzeroCount

@@ -7,7 +7,7 @@ use Prim.Native.Nat.{ℕ, zero, suc, _*_, _/_, _%_, _<_}
 use lib.ListN.{getD, set}
 use Rattle.sectors.specs.Refusal.{beyondMending}
 use Rattle.sectors.specs.Header.{SixBytes, Multiple, isMultiple, sixZeros}
-use Rattle.sectors.specs.Audit.{HeaderIn, headerSize, headerOr}
+use Rattle.sectors.specs.Audit.{headerSize, headerOr}
 use Rattle.sectors.specs.declared.mend.Mended.{Mended}
 
 -- "differ .. in at most one place": they are equal at every other
@@ -26,10 +26,10 @@ pub record Mends (h m : List ℕ) : Type 0 where
 -- ---- the answer
 
 -- the bytes that are returned, or a refusal and zeros
-abbrev pub mendedTo : List ℕ → Mended
+unfoldable pub mendedTo : List ℕ → Mended
 mendedTo m = record { refusal = 0; header = m }
 
-abbrev pub unmended : ℕ → Mended
+unfoldable pub unmended : ℕ → Mended
 unmended number = record { refusal = number; header = sixZeros }
 
 -- The headers that differ from one in at most one place are 6 x 256: the byte n % 256 at the place n / 256.
@@ -58,8 +58,10 @@ pub record Mendable (h : List ℕ) : Type 0 where
 pub record BeyondMending (h : List ℕ) : Type 0 where
   pub none-mends : ¬ Mendable h
 
--- "A correct header with just one byte changed always comes back as it was"
-abbrev pub ComesBack : ℕ → List ℕ → ℕ → Mended → Type 0
-ComesBack format image lsn answer =
-    (correct : List ℕ) (place byte : ℕ) → Multiple correct → place < headerSize
-    → HeaderIn (λ h. h ≡ set correct place byte) format image lsn → answer ≡ mendedTo correct
+-- "A correct header with just one byte changed"
+pub record OneByteChanged (correct h : List ℕ) : Type 0 where
+  pub is-correct : Multiple correct
+  pub place : ℕ
+  pub inside : place < headerSize
+  pub byte : ℕ
+  pub is-changed : h ≡ set correct place byte

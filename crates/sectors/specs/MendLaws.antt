@@ -15,7 +15,7 @@ use Rattle.sectors.specs.Header.{SixBytes, Multiple, isMultiple}
 use Rattle.sectors.specs.HeaderLaws.{finds-multiples}
 use Rattle.sectors.specs.Audit.{HeaderIn, headerSize, headerAt}
 use Rattle.sectors.specs.AuditLaws.{There, header-six, there-checked, there, in-image}
-use Rattle.sectors.specs.Mend.{Mends, mendedTo, unmended, candidate, mendedIn, mendedOf, mendOf, Mendable, BeyondMending, ComesBack}
+use Rattle.sectors.specs.Mend.{Mends, mendedTo, unmended, candidate, mendedIn, mendedOf, mendOf, Mendable, BeyondMending, OneByteChanged}
 use Rattle.sectors.specs.DistanceLaws.{or-other, six-set, set-equal, multiple-six, only-one}
 use Rattle.sectors.specs.declared.mend.Mended.{Mended}
 
@@ -89,15 +89,18 @@ module _ (h : List ℕ) (six : SixBytes h) where
 
   -- what the answer says of the header
   mendable : mendedOf h .refusal ≡ 0 ↔ Mendable h
+  unfolding mendedTo unmended
   mendable = ⊎-elim
       (λ w. ((λ e. record { mended = w .0; mends = w .1 .0 }), (λ some. ap (λ (a : Mended). a .refusal) (w .1 .1))))
       (λ none. ((λ e. absurd (omega (arith, e, ap (λ (a : Mended). a .refusal) (none .1)))), (λ some. absurd (none .0 .none-mends some))))
       mended-case
 
   returned-mends : mendedOf h .refusal ≡ 0 → Mends h (mendedOf h .header)
+  unfolding mendedTo
   returned-mends e = let w = mendable .0 e in rw (found (w .mended) (w .mends)) (w .mends)
 
   beyond : mendedOf h .refusal ≡ beyondMending ↔ BeyondMending h
+  unfolding mendedTo unmended
   beyond = ⊎-elim
       (λ w. (
         (λ e. absurd (omega (arith, e, ap (λ (a : Mended). a .refusal) (w .1 .1)))),
@@ -107,16 +110,15 @@ module _ (h : List ℕ) (six : SixBytes h) where
       mended-case
 
 -- "A correct header with just one byte changed always comes back as it was"
-comes-back : (correct : List ℕ) (place byte : ℕ) → Multiple correct → place < headerSize → SixBytes (set correct place byte)
-    → mendedOf (set correct place byte) ≡ mendedTo correct
-comes-back correct place byte q inside six =
-    found (set correct place byte) six correct
+comes-back : (correct h : List ℕ) → SixBytes h → OneByteChanged correct h → mendedOf h ≡ mendedTo correct
+comes-back correct h six w =
+    found h six correct
     (record {
-      six-bytes = multiple-six correct q;
-      is-multiple = q;
-      place = place;
-      inside = inside;
-      equal-but = λ i other. getD-set-other correct place i byte 0 other;
+      six-bytes = multiple-six correct (w .is-correct);
+      is-multiple = w .is-correct;
+      place = w .place;
+      inside = w .inside;
+      equal-but = λ i other. rw (w .is-changed) (getD-set-other correct (w .place) i (w .byte) 0 other);
     })
 
 -- ---- of the header in an image
@@ -137,16 +139,16 @@ module _ (format : ℕ) (image : List ℕ) (lsn : ℕ) (bytes : (i : ℕ) → ge
     pub mendable-iff : answer .refusal ≡ 0 ↔ HeaderIn Mendable format image lsn
     pub header-mends : answer .refusal ≡ 0 → Mends (headerAt image lsn) (answer .header)
     pub beyond-iff : answer .refusal ≡ beyondMending ↔ HeaderIn BeyondMending format image lsn
-    pub changed-back : ComesBack format image lsn answer
+    pub changed-back : (correct : List ℕ) → HeaderIn (OneByteChanged correct) format image lsn → answer ≡ mendedTo correct
 
   module _ (k : ℕ) (not-1 : foreignFormat ≢ k) (not-11 : noHeader ≢ k) (not-8 : noSuchEntry ≢ k) where
     refusal-there : mendOf format image lsn .refusal ≡ k → There format image lsn
-    unfolding mendOf
+    unfolding mendOf unmended
     refusal-there = there unmended mendedOf format image lsn (λ (a : Mended). a .refusal) k not-1 not-11 not-8
 
     refusal-iff : (P : List ℕ → Type 0) → ((h : List ℕ) → SixBytes h → mendedOf h .refusal ≡ k ↔ P h)
         → mendOf format image lsn .refusal ≡ k ↔ HeaderIn P format image lsn
-    unfolding mendOf
+    unfolding mendOf unmended
     refusal-iff P means =
         in-image unmended mendedOf format image lsn (λ (a : Mended). a .refusal) k not-1 not-11 not-8 P (λ t. means header (header-is-six t))
 
@@ -157,7 +159,7 @@ module _ (format : ℕ) (image : List ℕ) (lsn : ℕ) (bytes : (i : ℕ) → ge
         let t = refusal-there 0 (omega arith) (omega arith) (omega arith) e in
         rw (said t) (returned-mends header (header-is-six t) (rw (said t) at e));
     beyond-iff = refusal-iff beyondMending (omega arith) (omega arith) (omega arith) BeyondMending beyond;
-    changed-back = λ correct place byte q inside s.
+    changed-back = λ correct s.
         let t : There format image lsn = (s .has-header, s .is-there) in
-        said t ∙ ap mendedOf (s .its-header) ∙ comes-back correct place byte q inside (rw (s .its-header) at (header-is-six t));
+        said t ∙ comes-back correct header (header-is-six t) (s .its-header);
   }

@@ -1,12 +1,13 @@
 // Mending a header: the multiple of (x + 1)(x + α) that differs from it in at most one place.
 ghost use mathlib.Core.Path.{_≡_};
+ghost use mathlib.Core.List.{List};
 ghost use mathlib.Core.Logic.{_↔_};
-ghost use Prim.Native.Nat.{_<_};
+ghost use Prim.Native.Nat.{ℕ, _<_};
 ghost use lib.ListN.{length, getD, set};
 ghost use Rattle.sectors.specs.Refusal.{beyondMending};
 ghost use Rattle.sectors.specs.Field.{_⊕_};
 ghost use Rattle.sectors.specs.Audit.{HeaderIn, headerAt};
-ghost use Rattle.sectors.specs.Mend.{Mends, Mendable, BeyondMending, ComesBack, unmended, mendedOf, mendOf};
+ghost use Rattle.sectors.specs.Mend.{Mends, Mendable, BeyondMending, OneByteChanged, mendedTo, unmended, mendedOf, mendOf};
 use crate::header::HEADER_FORMAT;
 use crate::header::HEADER_SIZE;
 use crate::header::at_alpha;
@@ -80,7 +81,7 @@ pub fn mend(format: u32, image: &[u8], lsn: Lsn) -> Mended
     ensures mendable { λ r. ⌜ (r .refusal ≡ 0) ↔ HeaderIn Mendable format (now (image .entry)) (lsn .0) ⌝ }
     ensures mends { λ r. ⌜ (r .refusal ≡ 0 → Mends (headerAt (now (image .entry)) (lsn .0)) (r .header)) ⌝ }
     ensures beyond { λ r. ⌜ (r .refusal ≡ beyondMending) ↔ HeaderIn BeyondMending format (now (image .entry)) (lsn .0) ⌝ }
-    ensures comes_back { λ r. ⌜ ComesBack format (now (image .entry)) (lsn .0) r ⌝ }
+    ensures comes_back { λ r. ⌜ ((g : List ℕ) → HeaderIn (OneByteChanged g) format (now (image .entry)) (lsn .0) → r ≡ mendedTo g) ⌝ }
 {
     if is_foreign(format) {
         return unmended(FOREIGN_FORMAT);

@@ -32,6 +32,7 @@ six-requires : tie.Need-six-requires
 six-requires c κs = search needs
 
 returns-2 : tie.Need-returns-2
+unfolding mendedTo
 returns-2 c =
     let exponent = c .before .before .before in let alpha = exponent .before in
     let one = alpha .before in let known = one .before in
@@ -49,6 +50,7 @@ changed-requires : tie.Need-changed-requires
 changed-requires c κs = search needs
 
 returns-3 : tie.Need-returns-3
+unfolding mendedTo
 returns-3 c =
     let by-value = c .before .before in let exponent = by-value .before .before in
     let alpha = exponent .before in let one = alpha .before in
