@@ -36,7 +36,8 @@ logs = stored 0 powers (replicate nonzeroCount 0)
 unfoldable pub log : ℕ → ℕ
 log x = getD logs (x - 1) 0
 
--- The exponent of the least power of α that takes a to b; 255 or more if none does.
+-- ---- a step of the program, no rule of 02: the exponent of the least power of α that takes a to b, 255 or more if none does
+
 pub record LeastExponent (a b n : ℕ) : Type 0 where
   pub takes : n < nonzeroCount → timesPower n a ≡ b
   pub is-least : (k : ℕ) → timesPower k a ≡ b → n ≤ k

@@ -36,7 +36,7 @@ unmended number = record { refusal = number; header = sixZeros }
 unfoldable pub candidate : List ℕ → ℕ → List ℕ
 candidate h n = set h (n / 256) (n % 256)
 
--- of the first n the one that is a multiple, of which there is at most one
+-- of the first n the one that is a multiple; there is at most one (`multiples-apart` of `DistanceLaws`)
 unfoldable pub mendedIn : List ℕ → ℕ → Mended
 mendedIn h zero = unmended beyondMending
 mendedIn h (suc n) = cond (isMultiple (candidate h n)) (mendedTo (candidate h n)) (mendedIn h n)

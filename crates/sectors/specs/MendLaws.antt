@@ -11,7 +11,7 @@ use lib.Arith.{digits-div, digits-mod, digits-lt}
 use lib.ListN.{getD, set}
 use lib.Seq.{getD-set-other}
 use Rattle.sectors.specs.Refusal.{foreignFormat, noSuchEntry, noHeader, beyondMending}
-use Rattle.sectors.specs.Header.{SixBytes, Multiple, isMultiple}
+use Rattle.sectors.specs.Header.{SixBytes, isMultiple}
 use Rattle.sectors.specs.HeaderLaws.{finds-multiples}
 use Rattle.sectors.specs.Audit.{HeaderIn, headerSize, headerAt}
 use Rattle.sectors.specs.AuditLaws.{There, header-six, there-checked, there, in-image}

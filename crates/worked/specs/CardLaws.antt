@@ -13,7 +13,7 @@ use Rattle.sectors.specs.BytesLaws.{same-eq}
 use Rattle.sectors.specs.CheckLaws.{fails}
 use Rattle.sectors.specs.Field.{_⊕_, timesAlpha}
 use Rattle.sectors.specs.Fill.{fill}
-use Rattle.sectors.specs.Header.{atOne, atAlpha, isMultiple, isBlank, isSound}
+use Rattle.sectors.specs.Header.{SixBytes, atOne, atAlpha, isMultiple, isBlank, isSound}
 use Rattle.sectors.specs.HeaderLaws.{decides}
 use Rattle.text.specs.Charset.{latin1, setOf, isMapped, charsetOf}
 use Rattle.text.specs.Decode.{latin1Points, pointsOf, giving, answerIn, pageWith, decodeOf, decodeInto}
@@ -55,10 +55,10 @@ bytes-below [] e i = omega arith
 bytes-below (b ∷ rest) e zero = ltb-true b 256 (both (ltb b 256) (areBytes rest) e .0)
 bytes-below (b ∷ rest) e (suc i) = bytes-below rest (both (ltb b 256) (areBytes rest) e .1) i
 
-judged : (bytes : List ℕ) (sound : Bool) → length bytes ≡ headerSize → ((i : ℕ) → getD bytes i 0 < 256) → isSound bytes ≡ sound → Judged sound bytes
+judged : (bytes : List ℕ) (sound : Bool) → SixBytes bytes → isSound bytes ≡ sound → Judged sound bytes
 unfolding Judged
-judged bytes true six below e = decides bytes six below .0 e
-judged bytes false six below e = fails (isSound bytes) (decides bytes six below) .0 e
+judged bytes true six e = decides bytes six .0 e
+judged bytes false six e = fails (isSound bytes) (decides bytes six) .0 e
 
 holds : (card : Card) → passes card ≡ true → Holds card
 unfolding passes Holds decodesTo
@@ -74,7 +74,9 @@ holds (charsetCard code charset) e = eqb-true (charsetOf code) charset e
 holds (headerCard bytes sound) e =
     let all = both (eqb (length bytes) headerSize && areBytes bytes) (alike (isSound bytes) sound) e in
     let six = both (eqb (length bytes) headerSize) (areBytes bytes) (all .0) in
-    judged bytes sound (eqb-true (length bytes) headerSize (six .0)) (bytes-below bytes (six .1)) (alike-same (isSound bytes) sound (all .1))
+    judged bytes sound
+    (record { its-length = eqb-true (length bytes) headerSize (six .0); its-bytes = bytes-below bytes (six .1) })
+    (alike-same (isSound bytes) sound (all .1))
 holds (verdictCard bytes verdict) e = eqb-true (verdictOf bytes) verdict e
 
 all-hold : (them : List Card) → allPass them ≡ true → AllHold them
