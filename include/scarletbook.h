@@ -95,10 +95,11 @@ enum {
     SCARLETBOOK_NO_SUCH_ENTRY = 8,    /* no such track, item or area, or a sector not in the image */
     SCARLETBOOK_SET_NOT_HELD = 9,     /* a text that is there is of set 3, 4, 5 or 6 */
     SCARLETBOOK_SHORT_PAGE = 10,      /* the decoded text is longer than the page lent */
-    SCARLETBOOK_NO_HEADER = 11        /* sectors of format 0 or 1 have no header to audit */
+    SCARLETBOOK_NO_HEADER = 11,       /* sectors of format 0 or 1 have no header to audit or to mend */
+    SCARLETBOOK_BEYOND_MENDING = 14   /* no correct header differs from this one in at most one place */
 };
 
-/* The word of a refusal, as in "not Scarlet Book"; "" for 0 and above 11. */
+/* The word of a refusal, as in "not Scarlet Book"; "" for a number that no refusal has. */
 static inline const char *scarletbook_refusal_word(uint8_t refusal)
 {
     static const char *const words[] = {
@@ -114,8 +115,11 @@ static inline const char *scarletbook_refusal_word(uint8_t refusal)
         "set not held",
         "short page",
         "no header",
+        "",
+        "",
+        "beyond mending",
     };
-    return refusal <= SCARLETBOOK_NO_HEADER ? words[refusal] : "";
+    return refusal <= SCARLETBOOK_BEYOND_MENDING ? words[refusal] : "";
 }
 
 /* ---- Warnings: what was met in a reading that did not refuse it ---- */
@@ -427,6 +431,12 @@ typedef struct scarletbook_audit_answer {
     uint8_t verdict; /* SCARLETBOOK_SOUND, SCARLETBOOK_BLANK or SCARLETBOOK_UNSOUND; 0 with a refusal */
 } scarletbook_audit_answer;
 
+/* The answer of scarletbook_mend. */
+typedef struct scarletbook_mended {
+    uint8_t refusal;
+    uint8_t header[6]; /* all zero with a refusal; six zeros can be an answer too, so look at the refusal first */
+} scarletbook_mended;
+
 /* The answer of the decoding functions. */
 typedef struct scarletbook_decode_answer {
     uint8_t refusal;
@@ -599,6 +609,19 @@ scarletbook_comparison scarletbook_compare_sectors(uint32_t format, const uint8_
 /* Whether the header of a sector is sound (ECMA-267), blank or unsound. Refused, in this order: 1; 11; 8. */
 scarletbook_audit_answer scarletbook_audit(uint32_t format, const uint8_t *image, size_t image_len,
                                            uint32_t lsn);
+
+/*
+ * Mends the header of a sector: answers the one correct header, a multiple of (x + 1)(x + alpha) (ECMA-267), that
+ * differs from it in at most one place. A blank header counts as correct here. A correct header comes back as it
+ * is, and a correct one with one byte changed always comes back as it was. The image is never written.
+ *
+ * The answer is the nearest correct header, and no proof of what was written: a header with two or more bad bytes
+ * can lie one place from another correct one, and then comes back as that one. Of six random bytes, 1,531 in
+ * 65,536 mend (2.3 %).
+ *
+ * Refused, in this order: 1; 11; 8; 14 exactly when there is no such header.
+ */
+scarletbook_mended scarletbook_mend(uint32_t format, const uint8_t *image, size_t image_len, uint32_t lsn);
 
 /* The fingerprint of a sector: FNV-1a, 64 bits, of its data bytes. Refused, in this order: 1; 8. */
 scarletbook_fingerprint_answer scarletbook_fingerprint(uint32_t format, const uint8_t *image,

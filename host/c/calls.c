@@ -141,13 +141,19 @@ static void sectors(void)
     CHECK(scarletbook_wrapping_mul(UINT64_C(0x8000000000000001), 3) == UINT64_C(0x8000000000000003));
 }
 
-/* The audit of a header, before data of any bytes. */
+/* A sector of format 2 with a header, before data of any bytes. */
+static uint8_t sector[2064];
+
+static void make_sector(const char *header)
+{
+    memset(sector, 0xe9, sizeof sector);
+    put(sector, header, 6);
+}
+
 static scarletbook_audit_answer audit(const char *header)
 {
-    static uint8_t raw[2064];
-    memset(raw, 0xe9, sizeof raw);
-    put(raw, header, 6);
-    return scarletbook_audit(SCARLETBOOK_RAW2064, raw, sizeof raw, 0);
+    make_sector(header);
+    return scarletbook_audit(SCARLETBOOK_RAW2064, sector, sizeof sector, 0);
 }
 
 static void headers(void)
@@ -166,6 +172,52 @@ static void headers(void)
     CHECK(refused.refusal == SCARLETBOOK_NO_SUCH_ENTRY && refused.verdict == 0);
     refused = scarletbook_audit(SCARLETBOOK_RAW2064, raw, sizeof raw - 1, 0);
     CHECK(refused.refusal == SCARLETBOOK_NO_SUCH_ENTRY && refused.verdict == 0);
+}
+
+/* Whether a header mends to another, and no byte of the image changes. */
+static int mends(const char *header, const char *expected)
+{
+    static uint8_t before[sizeof sector];
+    make_sector(header);
+    memcpy(before, sector, sizeof sector);
+    scarletbook_mended mended = scarletbook_mend(SCARLETBOOK_RAW2064, sector, sizeof sector, 0);
+    return mended.refusal == 0 && memcmp(mended.header, expected, 6) == 0 &&
+           memcmp(before, sector, sizeof sector) == 0;
+}
+
+/* Whether the sector of the last header is refused by a number, with six zeros. */
+static int not_mended(uint32_t format, size_t size, uint32_t lsn, uint8_t refusal)
+{
+    scarletbook_mended mended = scarletbook_mend(format, sector, size, lsn);
+    return mended.refusal == refusal && memcmp(mended.header, "\0\0\0\0\0\0", 6) == 0;
+}
+
+static void mended_headers(void)
+{
+    static const char correct[] = "\0\0\0\1\3\2", blank[] = "\0\0\0\0\0\0";
+    CHECK(mends("\7\0\0\1\3\2", correct));
+    CHECK(mends("\0\1\0\1\3\2", correct));
+    CHECK(mends("\0\0\377\1\3\2", correct));
+    CHECK(mends("\0\0\0\0\3\2", correct));
+    CHECK(mends("\0\0\0\1\2\2", correct));
+    CHECK(mends("\0\0\0\1\3\200", correct));
+    CHECK(mends(correct, correct));
+    CHECK(mends(blank, blank));
+    CHECK(mends("\0\0\0\0\0\1", blank));
+    CHECK(mends("\200\0\0\0\0\0", blank));
+}
+
+static void headers_beyond_mending(void)
+{
+    const uint32_t format = SCARLETBOOK_RAW2064;
+    make_sector("\0\0\0\1\2\3");
+    CHECK(not_mended(format, sizeof sector, 0, SCARLETBOOK_BEYOND_MENDING));
+    CHECK(not_mended(format, sizeof sector, 1, SCARLETBOOK_NO_SUCH_ENTRY));
+    CHECK(not_mended(format, sizeof sector - 1, 0, SCARLETBOOK_NO_SUCH_ENTRY));
+    CHECK(not_mended(SCARLETBOOK_PLAIN, sizeof sector, 0, SCARLETBOOK_NO_HEADER));
+    CHECK(not_mended(SCARLETBOOK_RAW2054, sizeof sector, 1, SCARLETBOOK_NO_HEADER));
+    CHECK(not_mended(3, sizeof sector, 0, SCARLETBOOK_FOREIGN_FORMAT));
+    CHECK(not_mended(3, sizeof sector, 1, SCARLETBOOK_FOREIGN_FORMAT));
 }
 
 static void parts_of_tables(void)
@@ -229,6 +281,9 @@ static void no_bytes(void)
     CHECK(scarletbook_read_sectors(0, NULL, 0, 0, 1, page, sizeof page, 0) == SCARLETBOOK_NO_SUCH_ENTRY);
     CHECK(scarletbook_compare_sectors(0, NULL, 0, 0, 0, NULL, 0).equal == 1);
     CHECK(scarletbook_audit(SCARLETBOOK_RAW2064, NULL, 0, 0).refusal == SCARLETBOOK_NO_SUCH_ENTRY);
+    CHECK(scarletbook_mend(SCARLETBOOK_RAW2064, NULL, 0, 0).refusal == SCARLETBOOK_NO_SUCH_ENTRY);
+    CHECK(scarletbook_mend(SCARLETBOOK_PLAIN, NULL, 0, 0).refusal == SCARLETBOOK_NO_HEADER);
+    CHECK(scarletbook_mend(3, NULL, 0, 0).refusal == SCARLETBOOK_FOREIGN_FORMAT);
     CHECK(scarletbook_fingerprint(0, NULL, 0, 0).refusal == SCARLETBOOK_NO_SUCH_ENTRY);
     CHECK(scarletbook_digest(NULL, 0) == UINT64_C(0xcbf29ce484222325));
     CHECK(scarletbook_byte_at(NULL, 0, 0) == 0);
@@ -247,6 +302,8 @@ int main(void)
     lone_tables();
     sectors();
     headers();
+    mended_headers();
+    headers_beyond_mending();
     parts_of_tables();
     no_memory();
     no_bytes();

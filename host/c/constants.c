@@ -44,6 +44,7 @@ static void print_refusals(void)
     NUMBER(SET_NOT_HELD);
     NUMBER(SHORT_PAGE);
     NUMBER(NO_HEADER);
+    NUMBER(BEYOND_MENDING);
 }
 
 static void print_warnings(void)

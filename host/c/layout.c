@@ -128,6 +128,13 @@ static void print_audit_answer(void)
     FIELD(uint8_t, verdict);
 }
 
+static void print_mended(void)
+{
+    RECORD(mended, scarletbook_mended);
+    FIELD(uint8_t, refusal);
+    ARRAY(uint8_t, header);
+}
+
 static void print_decode_answer(void)
 {
     RECORD(decode_answer, scarletbook_decode_answer);
@@ -281,6 +288,7 @@ int main(void)
     print_comparison();
     print_fingerprint_answer();
     print_audit_answer();
+    print_mended();
     print_decode_answer();
     print_detect_answer();
     print_cap_answer();

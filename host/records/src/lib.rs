@@ -155,6 +155,7 @@ records! {
     "comparison" Comparison { refusal, equal }
     "fingerprint_answer" FingerprintAnswer { refusal, digest }
     "audit_answer" AuditAnswer { refusal, verdict }
+    "mended" Mended { refusal, header }
     "decode_answer" DecodeAnswer { refusal, len }
     "detect_answer" DetectAnswer { refusal, sector_format }
     "cap_answer" CapAnswer { start_frame, duration_frames, past_playtime }

@@ -53,10 +53,9 @@ fn constants_and_words() -> String {
         writeln!(lines, "{name} {number}").unwrap();
     }
     for number in 0..=255u8 {
-        let at = usize::from(number).checked_sub(1);
-        let word = at.and_then(|at| Refusal::ALL.get(at)).map_or("", |refusal| refusal.word());
+        let word = Refusal::of_number(number).map_or("", Refusal::word);
         writeln!(lines, "refusal {number} [{word}]").unwrap();
-        let code = at.and_then(|at| WarningCode::ALL.get(at));
+        let code = usize::from(number).checked_sub(1).and_then(|at| WarningCode::ALL.get(at));
         let (name, words) = code.map_or(("", ""), |code| (code.code(), code.words()));
         writeln!(lines, "warning {number} [{name}] [{words}]").unwrap();
     }

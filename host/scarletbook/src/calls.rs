@@ -35,6 +35,7 @@ unsafe extern "C" {
         lsn: u32,
     ) -> FingerprintAnswer;
     fn scarletbook_audit(format: u32, image: *const u8, image_len: usize, lsn: u32) -> AuditAnswer;
+    fn scarletbook_mend(format: u32, image: *const u8, image_len: usize, lsn: u32) -> Mended;
     fn scarletbook_byte_at(table: *const u8, table_len: usize, at: usize) -> u8;
     fn scarletbook_be16_at(table: *const u8, table_len: usize, at: usize) -> u16;
     fn scarletbook_be32_at(table: *const u8, table_len: usize, at: usize) -> u32;
@@ -220,6 +221,15 @@ pub fn fingerprint(format: impl Into<u32>, image: &[u8], lsn: u32) -> Fingerprin
 pub fn audit(format: impl Into<u32>, image: &[u8], lsn: u32) -> AuditAnswer {
     // SAFETY: the pointer and length are those of a slice.
     unsafe { scarletbook_audit(format.into(), image.as_ptr(), image.len(), lsn) }
+}
+
+/// The correct header, blank ones included, that differs from the header of sector `lsn` in at most
+/// one place. It is the nearest correct one, and no proof of what was written. Refused, in this order:
+/// 1 for a foreign format, 11 for format 0 or 1, 8 when the sector is not in the image, 14 when there
+/// is no such header.
+pub fn mend(format: impl Into<u32>, image: &[u8], lsn: u32) -> Mended {
+    // SAFETY: the pointer and length are those of a slice.
+    unsafe { scarletbook_mend(format.into(), image.as_ptr(), image.len(), lsn) }
 }
 
 /// The byte at `at`; 0 past the end.

@@ -42,7 +42,7 @@ pub use area::{Area, Track};
 pub use disc::{Disc, Memory};
 pub use item::{AreaTextItem, DiscTextItem, TrackTextItem};
 pub use refusal::{Refusal, Refused};
-pub use sector::{Header, SectorFormat, audit, digest, fingerprint};
+pub use sector::{Header, SectorFormat, audit, digest, fingerprint, mend};
 pub use table::{Items, Table, TextItem};
 pub use warning::{Warning, WarningCode};
 

@@ -68,6 +68,15 @@ pub struct AuditAnswer {
     pub verdict: u8,
 }
 
+/// The answer of [`mend`](crate::raw::mend).
+#[repr(C)]
+#[derive(Clone, Copy, Debug, PartialEq, Eq)]
+pub struct Mended {
+    pub refusal: u8,
+    /// The mended header, which can be six zeros; all zero with a refusal.
+    pub header: [u8; 6],
+}
+
 /// The answer of [`decode`](crate::raw::decode).
 #[repr(C)]
 #[derive(Clone, Copy, Debug, PartialEq, Eq)]

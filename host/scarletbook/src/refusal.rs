@@ -29,11 +29,13 @@ pub enum Refusal {
     ShortPage = 10,
     /// Sectors of this format have no header.
     NoHeader = 11,
+    /// No correct header differs from this one in at most one place.
+    BeyondMending = 14,
 }
 
 impl Refusal {
     /// Every refusal, by number.
-    pub const ALL: [Refusal; 11] = [
+    pub const ALL: [Refusal; 12] = [
         Refusal::ForeignFormat,
         Refusal::ShortBuffer,
         Refusal::CutMaster,
@@ -45,9 +47,10 @@ impl Refusal {
         Refusal::SetNotHeld,
         Refusal::ShortPage,
         Refusal::NoHeader,
+        Refusal::BeyondMending,
     ];
 
-    /// Its number, 1 to 11.
+    /// Its number, 1 to 11 or 14.
     pub fn number(self) -> u8 {
         self as u8
     }
@@ -66,10 +69,11 @@ impl Refusal {
             Refusal::SetNotHeld => "set not held",
             Refusal::ShortPage => "short page",
             Refusal::NoHeader => "no header",
+            Refusal::BeyondMending => "beyond mending",
         }
     }
 
-    /// The refusal of a number; nothing for 0 and above 11.
+    /// The refusal of a number; nothing for a number that no refusal has.
     ///
     /// ```
     /// use scarletbook::{Refusal, raw};

@@ -112,6 +112,34 @@ pub fn audit(format: impl Into<u32>, image: &[u8], lsn: u32) -> Result<Header, R
     Ok(Header::of_number(answer.verdict).expect("a verdict of the library"))
 }
 
+/// Mends the header of a sector: the one correct header, a multiple of (x + 1)(x + α) (ECMA-267), that
+/// differs from it in at most one place. A blank header counts as correct here. A correct header comes
+/// back as it is, and a correct one with one byte changed always comes back as it was. The image is
+/// never written.
+///
+/// This is the nearest correct header, and no proof of what was written: a header with two or more bad
+/// bytes can lie one place from another correct one, and then comes back as that one. Of six random
+/// bytes, 1,531 in 65,536 mend (2.3 %).
+///
+/// Refused by 1 for a foreign format, by 11 unless sectors have 2,064 bytes, by 8 if it is not in the
+/// image, by 14 exactly when there is no such header.
+///
+/// ```
+/// use scarletbook::{Refusal, SectorFormat, mend};
+///
+/// let mut image = vec![0; 3 * 2064];
+/// image[..6].copy_from_slice(&[0, 0, 7, 1, 3, 2]);
+/// image[2064..][..6].copy_from_slice(&[0, 0, 0, 0, 0, 1]);
+/// image[2 * 2064..][..6].copy_from_slice(&[0, 0, 0, 1, 2, 3]);
+/// assert_eq!(mend(SectorFormat::Raw2064, &image, 0), Ok([0, 0, 0, 1, 3, 2]));
+/// assert_eq!(mend(SectorFormat::Raw2064, &image, 1), Ok([0; 6]));
+/// assert_eq!(mend(SectorFormat::Raw2064, &image, 2), Err(Refusal::BeyondMending));
+/// ```
+pub fn mend(format: impl Into<u32>, image: &[u8], lsn: u32) -> Result<[u8; 6], Refusal> {
+    let answer = calls::mend(format, image, lsn);
+    Refusal::check(answer.refusal).map(|()| answer.header)
+}
+
 /// FNV-1a, 64 bits, of any bytes.
 ///
 /// ```

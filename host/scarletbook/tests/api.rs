@@ -295,12 +295,15 @@ fn numbers_and_words_of_refusals() {
         "set not held",
         "short page",
         "no header",
+        "beyond mending",
     ];
     assert_eq!(Refusal::ALL.map(Refusal::word), words);
-    for (refusal, number) in Refusal::ALL.into_iter().zip(1..) {
-        assert_eq!(refusal.number(), number);
+    // 12 and 13 are no refusals.
+    for (refusal, number) in Refusal::ALL.into_iter().zip((1..12).chain([14])) {
+        assert_eq!((refusal.number(), Refusal::of_number(number)), (number, Some(refusal)));
         assert_eq!(refusal.to_string(), format!("refused {number}: {}", refusal.word()));
     }
+    assert_eq!([0, 12, 13, 15, 255].map(Refusal::of_number), [None; 5]);
 }
 
 #[test]
@@ -340,8 +343,6 @@ fn small_conveniences() {
     assert_eq!(disc.master().locales()[0].charset, 2);
     let silent = Disc::read(0u32, &silent_disc()).err().and_then(Refused::into_silent);
     assert_eq!(silent.expect("a silent disc").warnings().count(), 1);
-    let numbers = [0, 1, 11, 12].map(Refusal::of_number);
-    assert_eq!(numbers, [None, Some(Refusal::ForeignFormat), Some(Refusal::NoHeader), None]);
     assert_eq!(WarningCode::ALL.map(WarningCode::number)[17], 18);
 }
 
@@ -396,6 +397,26 @@ fn a_header_is_sound_blank_or_unsound() {
     let headers = [0, 1, 2, 3, 4, 255].map(Header::of_number);
     let [sound, blank, unsound] = Header::ALL.map(Some);
     assert_eq!(headers, [None, sound, blank, unsound, None, None]);
+}
+
+#[test]
+fn a_header_mends_or_is_beyond_mending() {
+    let mut raw = stored(SectorFormat::Raw2064, &plain());
+    for (header, expected) in [
+        ([0, 0, 0, 1, 3, 2], Ok([0, 0, 0, 1, 3, 2])),
+        ([0, 9, 0, 1, 3, 2], Ok([0, 0, 0, 1, 3, 2])),
+        ([0, 0, 0, 0, 0, 1], Ok([0; 6])),
+        ([0; 6], Ok([0; 6])),
+        ([0, 0, 0, 1, 2, 3], Err(Refusal::BeyondMending)),
+    ] {
+        put(&mut raw, MASTER * 2064, &header);
+        let before = raw.clone();
+        assert_eq!(scarletbook::mend(SectorFormat::Raw2064, &raw, 510), expected);
+        assert!(raw == before);
+    }
+    assert_eq!(scarletbook::mend(SectorFormat::Raw2064, &raw, 570), Err(Refusal::NoSuchEntry));
+    assert_eq!(scarletbook::mend(SectorFormat::Raw2054, &raw, 570), Err(Refusal::NoHeader));
+    assert_eq!(scarletbook::mend(3u32, &raw, 570), Err(Refusal::ForeignFormat));
 }
 
 /// Asks everything that there is to ask of a disc, and counts the answers.

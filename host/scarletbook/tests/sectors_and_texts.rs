@@ -35,6 +35,9 @@ fn empty_slices_are_accepted_or_refused_by_the_rules() {
     assert_eq!(audit(SectorFormat::Raw2064, &[], 0).refusal, Refusal::NoSuchEntry.number());
     assert_eq!(audit(SectorFormat::Plain, &[], 0).refusal, Refusal::NoHeader.number());
     assert_eq!(audit(3u32, &[], 0).refusal, Refusal::ForeignFormat.number());
+    assert_eq!(mend(SectorFormat::Raw2064, &[], 0), not_mended(Refusal::NoSuchEntry));
+    assert_eq!(mend(SectorFormat::Raw2054, &[], 0), not_mended(Refusal::NoHeader));
+    assert_eq!(mend(3u32, &[], 0), not_mended(Refusal::ForeignFormat));
 }
 
 #[test]
@@ -51,10 +54,15 @@ fn digest_gives_the_published_vectors() {
     assert_eq!(digest(b"foobar"), 0x8594_4171_f739_67e8);
 }
 
-/// The verdict on a header before data of one byte.
-fn verdict(header: [u8; 6], data: u8) -> u8 {
+/// A sector of format 2: a header before data of one byte.
+fn sector(header: [u8; 6], data: u8) -> [u8; 2064] {
     let mut image = [data; 2064];
     image[..6].copy_from_slice(&header);
+    image
+}
+
+fn verdict(header: [u8; 6], data: u8) -> u8 {
+    let image = sector(header, data);
     let AuditAnswer { refusal, verdict } = audit(SectorFormat::Raw2064, &image, 0);
     assert_eq!(refusal, 0);
     verdict
@@ -69,10 +77,49 @@ fn the_two_headers_of_the_document() {
 #[test]
 fn six_zeros_alone_are_blank_whatever_the_data_are() {
     assert_eq!([0, 1, 255].map(|data| verdict([0; 6], data)), [BLANK; 3]);
-    for (at, value) in (0..6).flat_map(|at| (1..=255).map(move |value| (at, value))) {
-        let mut header = [0; 6];
-        header[at] = value;
+    for header in single_changes([0; 6]) {
         assert_eq!(verdict(header, 0), UNSOUND, "{header:?}");
+    }
+}
+
+/// Every header that differs from the given one in exactly one byte.
+fn single_changes(header: [u8; 6]) -> impl Iterator<Item = [u8; 6]> {
+    let changes = (0..6).flat_map(|at| (1..=255).map(move |change| (at, change)));
+    changes.map(move |(at, change): (usize, u8)| {
+        let mut changed = header;
+        changed[at] ^= change;
+        changed
+    })
+}
+
+fn not_mended(refusal: Refusal) -> Mended {
+    Mended { refusal: refusal.number(), header: [0; 6] }
+}
+
+#[test]
+fn a_correct_header_with_one_byte_changed_comes_back_as_it_was() {
+    for correct in [[0, 0, 0, 1, 3, 2], [0; 6]] {
+        for header in single_changes(correct).chain([correct]) {
+            let image = sector(header, 7);
+            let expected = Mended { refusal: 0, header: correct };
+            assert_eq!(mend(SectorFormat::Raw2064, &image, 0), expected, "{header:?}");
+            assert_eq!(image, sector(header, 7));
+        }
+    }
+}
+
+#[test]
+fn a_header_that_is_not_mended_is_six_zeros_by_the_first_refusal() {
+    // Two bytes of 00 00 00 01 03 02 are changed.
+    let image = sector([0, 0, 0, 1, 2, 3], 0);
+    let beyond = not_mended(Refusal::BeyondMending);
+    assert_eq!(mend(SectorFormat::Raw2064, &image, 0), beyond);
+    assert_eq!(mend(SectorFormat::Raw2064, &image, 1), not_mended(Refusal::NoSuchEntry));
+    assert_eq!(mend(SectorFormat::Raw2064, &image[1..], 0), not_mended(Refusal::NoSuchEntry));
+    for lsn in [0, 1, u32::MAX] {
+        assert_eq!(mend(SectorFormat::Plain, &image, lsn), not_mended(Refusal::NoHeader));
+        assert_eq!(mend(SectorFormat::Raw2054, &image, lsn), not_mended(Refusal::NoHeader));
+        assert_eq!(mend(3u32, &image, lsn), not_mended(Refusal::ForeignFormat));
     }
 }
 
