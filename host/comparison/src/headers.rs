@@ -7,7 +7,7 @@ use generate::header::{self, Header, Verdict};
 use scarletbook::SectorFormat;
 use scarletbook::raw::AuditAnswer;
 
-const STORED: usize = 2064;
+pub const STORED: usize = 2064;
 /// Other correct headers, and as many of any bytes, beside each one and its single changes.
 const OTHERS: usize = 500;
 /// The sectors of a stretch, and of each part of the image beside it, at most.
@@ -83,7 +83,7 @@ impl Headers {
         let behind = if place == Place::End { vec![] } else { written(rng) };
         let mut image = image(&[&before[..], &vec![[0; 6]; blank], &behind].concat());
         if data {
-            image.chunks_exact_mut(STORED).for_each(|sector| rng.fill(&mut sector[6..]));
+            fill_data(rng, &mut image);
         }
         let kind = &mut self.stretches;
         audit_all(kind, &image);
@@ -112,12 +112,12 @@ impl Place {
     }
 }
 
-fn any_correct(rng: &mut Rng) -> Header {
+pub fn any_correct(rng: &mut Rng) -> Header {
     let lsn = rng.below(1 << 22);
     header::correct(header::any_id(rng, lsn))
 }
 
-fn random(rng: &mut Rng) -> Header {
+pub fn random(rng: &mut Rng) -> Header {
     let mut header = [0; 6];
     rng.fill(&mut header);
     header
@@ -132,13 +132,18 @@ fn any_written(rng: &mut Rng) -> Header {
     }
 }
 
-/// An image of format 2 whose sectors have these headers.
-fn image(headers: &[Header]) -> Vec<u8> {
+/// An image of format 2 whose sectors have these headers, before zeros.
+pub fn image(headers: &[Header]) -> Vec<u8> {
     let mut image = vec![0; headers.len() * STORED];
     for (sector, header) in image.chunks_exact_mut(STORED).zip(headers) {
         sector[..6].copy_from_slice(header);
     }
     image
+}
+
+/// Gives the sectors of an image of format 2 any data.
+pub fn fill_data(rng: &mut Rng, image: &mut [u8]) {
+    image.chunks_exact_mut(STORED).for_each(|sector| rng.fill(&mut sector[6..]));
 }
 
 /// Audits every sector of an image of format 2.

@@ -16,6 +16,7 @@ mod headers;
 mod heads;
 mod layouts;
 mod lone;
+mod mending;
 mod noise;
 mod numbers;
 mod options;
@@ -38,6 +39,7 @@ use fields::Fields;
 use generate::Rng;
 use generate::table;
 use headers::Headers;
+use mending::Mending;
 use numbers::Numbers;
 use options::{Mode, Options, USAGE};
 use sectors::Sectors;
@@ -56,7 +58,6 @@ fn all(options: &Options) -> Vec<Kind> {
     let mut extent = Extent::new();
     let mut sectors = Sectors::new();
     let mut numbers = Numbers::new();
-    let mut headers = Headers::new();
     for case in 0..options.cases {
         let mut rng = Rng::of_case(options.seed, case);
         let image = generate::image::any_image(&mut rng);
@@ -64,21 +65,30 @@ fn all(options: &Options) -> Vec<Kind> {
         sectors.cases(&mut rng, &image);
         numbers.cases(&mut rng);
     }
-    headers.cases(options.seed, options.headers);
     let (fields, strings, times) = texts(options);
     let Extent { sector_count, contains } = extent;
-    let Sectors { read, compare, fingerprint, audit } = sectors;
+    let Sectors { read, compare, fingerprint, audit, mend } = sectors;
     let Numbers { byte, be16, be32, product, digest } = numbers;
     let Strings { string_bytes, decode } = strings;
     let Fields { charset, language, fixed_bytes, fixed_text } = fields;
-    let Headers { many, stretches } = headers;
-    let sectors = [sector_count, contains, read, compare, fingerprint, audit, many, stretches];
+    let sectors = [sector_count, contains, read, compare, fingerprint, audit, mend];
     let numbers = [product, digest, byte, be16, be32];
     let texts = [string_bytes, charset, decode, fixed_bytes, fixed_text, language];
     let times = [times.frame_number, times.cap];
-    let below = sectors.into_iter().chain(numbers).chain(texts).chain(times);
+    let sectors = sectors.into_iter().chain(headers(options));
+    let below = sectors.chain(numbers).chain(texts).chain(times);
     let areas = areas(options).into_iter().chain([layouts::kind()]);
     below.chain(areas).chain(disc::kinds(options.seed, options.count)).collect()
+}
+
+/// The audit and mending of many headers.
+fn headers(options: &Options) -> Vec<Kind> {
+    let (mut headers, mut mending) = (Headers::new(), Mending::new());
+    headers.cases(options.seed, options.headers);
+    mending.cases(options.seed, options.headers);
+    let Headers { many: audited, stretches } = headers;
+    let Mending { many: mended, images, refusals } = mending;
+    vec![audited, stretches, mended, images, refusals]
 }
 
 fn texts(options: &Options) -> (Fields, Strings, Times) {

@@ -29,7 +29,7 @@ pub struct Options {
     pub count: u64,
     /// Generated images, with a few questions about each.
     pub cases: u64,
-    /// Headers for the audit, at least.
+    /// Headers for the audit, at least, and as many for mending.
     pub headers: u64,
     /// Random strings, as many texts to decode, and as many fields, draws and times.
     pub texts: u64,

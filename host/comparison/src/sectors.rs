@@ -1,13 +1,15 @@
-//! Reading, comparing, fingerprints and the audit, over generated images.
+//! Reading, comparing, fingerprints, the audit and mending, over generated images.
 
 use crate::guard::Guarded;
 use crate::headers;
+use crate::mending;
 use crate::rust::{self, Lent};
 use crate::tally::Kind;
 use generate::Rng;
+use generate::header::{self, Header};
 use generate::image::Image;
 use generate::question::{Place, Run, any_place, any_run};
-use scarletbook::raw::{AuditAnswer, Comparison, FingerprintAnswer};
+use scarletbook::raw::{AuditAnswer, Comparison, FingerprintAnswer, Mended};
 use std::io::Cursor;
 
 #[derive(Debug)]
@@ -44,6 +46,7 @@ pub struct Sectors {
     pub compare: Kind,
     pub fingerprint: Kind,
     pub audit: Kind,
+    pub mend: Kind,
 }
 
 impl Sectors {
@@ -52,6 +55,9 @@ impl Sectors {
         let runs = ["refusal 1", "refusal 2", "refusal 8", "no sectors", "over 64 sectors"];
         let edges = ["to the end", "one sector too far", "room to the byte", "one byte short"];
         let common = [&runs[..], &edges[..], &formats[..]].concat();
+        let refusals = ["refusal 1", "refusal 11", "refusal 8"];
+        let verdicts = ["sound", "blank", "unsound"];
+        let mended = ["refusal 14", "sound", "blank", "mended"];
         Sectors {
             read: Kind::new("read_sectors", &[&common[..], &["part"]].concat()),
             compare: Kind::new(
@@ -62,10 +68,8 @@ impl Sectors {
                 "fingerprint",
                 &[&["refusal 1", "refusal 8"], &formats[..]].concat(),
             ),
-            audit: Kind::new(
-                "audit",
-                &["refusal 1", "refusal 11", "refusal 8", "sound", "blank", "unsound"],
-            ),
+            audit: Kind::new("audit", &[refusals, verdicts].concat()),
+            mend: Kind::new("mend", &[&refusals[..], &mended].concat()),
         }
     }
 
@@ -78,7 +82,9 @@ impl Sectors {
         let run = any_run(rng, image.sectors());
         self.fingerprint_case(image, &mut rust, run.lsn);
         self.compare_case(rng, image, &mut rust, run);
-        self.audit_case(image, &rust, run.lsn);
+        let header = expected_header(image, &rust, run.lsn);
+        self.audit_case(image, run.lsn, header);
+        self.mend_case(image, run.lsn, header);
     }
 
     fn read_case(&mut self, rng: &mut Rng, image: &Image, rust: &mut Option<Lent>, run: Run) {
@@ -128,13 +134,27 @@ impl Sectors {
         count_format(kind, image.format, refusal == 0);
     }
 
-    fn audit_case(&mut self, image: &Image, rust: &Option<Lent>, lsn: u32) {
+    fn audit_case(&mut self, image: &Image, lsn: u32, header: Result<Header, u8>) {
         let library = scarletbook::raw::audit(image.format, &image.bytes, lsn);
-        let expected = expected_audit(image, rust, lsn);
+        let refused = |refusal| AuditAnswer { refusal, verdict: 0 };
+        let expected = header.map_or_else(refused, headers::expected);
         let kind = &mut self.audit;
         let refusal = expected.refusal;
         kind.record_case(&question(image, Run { lsn, count: 1 }, 0, 0), refusal, library, expected);
         headers::count_verdict(kind, expected);
+    }
+
+    fn mend_case(&mut self, image: &Image, lsn: u32, header: Result<Header, u8>) {
+        let library = scarletbook::raw::mend(image.format, &image.bytes, lsn);
+        let searched = |header| mending::answer(header::mended(header));
+        let expected = header.map_or_else(mending::refused, searched);
+        let kind = &mut self.mend;
+        let Mended { refusal, header: mended } = expected;
+        kind.record_case(&question(image, Run { lsn, count: 1 }, 0, 0), refusal, library, expected);
+        let as_it_was = header == Ok(mended);
+        kind.class_if("sound", as_it_was && mended != [0; 6]);
+        kind.class_if("blank", as_it_was && mended == [0; 6]);
+        kind.class_if("mended", refusal == 0 && !as_it_was);
     }
 }
 
@@ -199,18 +219,17 @@ fn expected_fingerprint(rust: &mut Option<Lent>, lsn: u32) -> FingerprintAnswer 
     }
 }
 
-fn expected_audit(image: &Image, rust: &Option<Lent>, lsn: u32) -> AuditAnswer {
-    let refused = |refusal| AuditAnswer { refusal, verdict: 0 };
-    let Some(opened) = rust else { return refused(1) };
+/// The header of a sector, or why there is none: refusals 1 and 11 by the document, 8 by the Rust.
+fn expected_header(image: &Image, rust: &Option<Lent>, lsn: u32) -> Result<Header, u8> {
+    let opened = rust.as_ref().ok_or(1)?;
     if image.format != 2 {
-        return refused(11);
+        return Err(11);
     }
     if !opened.contains(u64::from(lsn), 1) {
-        return refused(8);
+        return Err(8);
     }
-    let at = lsn as usize * 2064;
-    let Some(header) = image.bytes.get(at..at + 6) else { return refused(rust::FAILED) };
-    headers::expected(header.try_into().expect("six bytes"))
+    let rest = image.bytes.get(lsn as usize * headers::STORED..).unwrap_or_default();
+    rest.first_chunk().copied().ok_or(rust::FAILED)
 }
 
 /// What the run holds, as it is, with a byte changed, a byte short or with bytes behind.

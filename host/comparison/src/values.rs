@@ -14,12 +14,13 @@ const MOST: usize = 16;
 const FLAG: &[u64] = &[0, 1];
 
 /// The fields that have few values: each must take every one of these, and no other.
-const FEW: [(&str, &[u64]); 29] = [
+const FEW: [(&str, &[u64]); 30] = [
     ("comparison.refusal", &[0, 1, 2, 8]),
     ("comparison.equal", FLAG),
     ("fingerprint_answer.refusal", &[0, 1, 8]),
     ("audit_answer.refusal", &[0, 1, 8, 11]),
     ("audit_answer.verdict", &[0, 1, 2, 3]),
+    ("mended.refusal", &[0, 1, 8, 11, 14]),
     ("decode_answer.refusal", &[0, 2, 8, 9, 10]),
     ("detect_answer.refusal", &[0, 4]),
     ("detect_answer.sector_format", &[0, 1, 2]),

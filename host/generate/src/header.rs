@@ -4,6 +4,7 @@
 //! x^8 + x^4 + x^3 + x^2 + 1, whose α is 2.
 
 use crate::Rng;
+use std::iter;
 
 pub type Header = [u8; 6];
 
@@ -60,6 +61,16 @@ pub fn verdict(header: Header) -> Verdict {
     }
 }
 
+/// What mending must answer, by search: of a header and all that differ from it in one byte, the one that
+/// is a multiple; nothing if none is. That there are never two is asserted.
+pub fn mended(header: Header) -> Option<Header> {
+    let near = iter::once(header).chain(single_changes(header));
+    let mut multiples = near.filter(|&near| is_multiple(near));
+    let found = multiples.next();
+    assert_eq!(multiples.next(), None, "another multiple next to {header:?}");
+    found
+}
+
 /// The header of an ID that is a multiple: its IED is the remainder of the ID with two zero bytes behind.
 pub fn correct(id: [u8; 4]) -> Header {
     let [a, b, c, d] = id;
@@ -74,6 +85,16 @@ pub fn damaged(rng: &mut Rng, header: Header) -> Header {
     changed[first] ^= rng.nonzero();
     if rng.below(2) == 0 {
         changed[(first + 1 + rng.below(5)) % 6] ^= rng.nonzero();
+    }
+    changed
+}
+
+/// A header that differs from the given one in exactly two bytes.
+pub fn double_change(rng: &mut Rng, header: Header) -> Header {
+    let (place, distance) = (rng.below(6), 1 + rng.below(5));
+    let mut changed = header;
+    for at in [place, (place + distance) % 6] {
+        changed[at] ^= rng.nonzero();
     }
     changed
 }

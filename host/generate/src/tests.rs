@@ -1,6 +1,7 @@
 use crate::Rng;
 use crate::header::{
-    Header, Verdict, correct, damaged, is_multiple, products, single_changes, times, verdict,
+    Header, Verdict, correct, damaged, double_change, is_multiple, mended, products,
+    single_changes, times, verdict,
 };
 use crate::image::{CONTENTS, Image, any_image};
 use crate::layout::{DATA, layout};
@@ -160,6 +161,27 @@ fn no_single_change_is_a_multiple() {
     let header = correct([0, 3, 1, 254]);
     assert_eq!(single_changes(header).count(), 6 * 255);
     assert!(single_changes(header).all(|changed| !is_multiple(changed)));
+}
+
+#[test]
+fn a_single_change_is_mended_by_search() {
+    for header in [[0; 6], [0, 0, 0, 1, 3, 2], correct([0, 3, 1, 254])] {
+        assert_eq!(mended(header), Some(header));
+        assert!(single_changes(header).all(|changed| mended(changed) == Some(header)));
+    }
+    assert_eq!(mended([0, 0, 0, 1, 2, 3]), None);
+}
+
+#[test]
+fn a_double_change_is_mended_to_another_header_or_not_at_all() {
+    let mut rng = Rng::new(5);
+    let header = correct([0, 3, 1, 254]);
+    let changes: Vec<_> = (0..2000).map(|_| double_change(&mut rng, header)).collect();
+    let differing = |other: Header| (0..6).filter(|&at| other[at] != header[at]).count();
+    assert!(changes.iter().all(|&changed| differing(changed) == 2));
+    let found: Vec<_> = changes.iter().filter_map(|&changed| mended(changed)).collect();
+    assert!(found.iter().all(|&found| is_multiple(found) && differing(found) == 3));
+    assert!((1..200).contains(&found.len()), "{} of 2000", found.len());
 }
 
 #[test]

@@ -2,12 +2,14 @@
 
 use crate::report::Report;
 use scarletbook::raw::sector_count;
-use scarletbook::{Header, Refusal, audit, fingerprint};
+use scarletbook::{Header, Refusal, audit, fingerprint, mend};
 use std::fmt;
 use std::io::{self, Write};
 
 /// The sectors of a step.
 const STEP: usize = 4096;
+/// The bytes of a sector that has a header.
+const STORED: usize = 2064;
 
 /// The whole sectors of an image in a format.
 pub struct Sectors<'a> {
@@ -57,6 +59,34 @@ impl fmt::Display for Run {
     }
 }
 
+/// The six bytes of a header, as 12 hexadecimal digits.
+struct Bytes([u8; 6]);
+
+impl fmt::Display for Bytes {
+    fn fmt(&self, f: &mut fmt::Formatter<'_>) -> fmt::Result {
+        self.0.iter().try_for_each(|byte| write!(f, "{byte:02x}"))
+    }
+}
+
+/// An unsound header.
+struct Unsound {
+    lsn: u32,
+    header: Bytes,
+    /// What it mends to; nothing if it is beyond mending.
+    mended: Option<Bytes>,
+}
+
+impl fmt::Display for Unsound {
+    fn fmt(&self, f: &mut fmt::Formatter<'_>) -> fmt::Result {
+        let Unsound { lsn, header, mended } = self;
+        write!(f, "{lsn}: unsound header {header}, ")?;
+        match mended {
+            Some(mended) => write!(f, "mends to {mended}"),
+            None => write!(f, "beyond mending"),
+        }
+    }
+}
+
 /// An audit on its way through the addresses.
 #[derive(Default)]
 struct Audit {
@@ -66,6 +96,7 @@ struct Audit {
 }
 
 impl Audit {
+    /// Counts a header, with a line if a run of blank ones ends before it.
     fn meet<W: Write, E: Write>(
         &mut self,
         report: &mut Report<W, E>,
@@ -84,8 +115,7 @@ impl Audit {
             }
             Header::Unsound => {
                 self.audited.unsound += 1;
-                self.end_run(report)?;
-                report.line(format_args!("{lsn}: unsound header"))
+                self.end_run(report)
             }
         }
     }
@@ -111,11 +141,23 @@ impl Sectors<'_> {
         self.each(report, |report, lsn| {
             // No sector of the image is refused now.
             let header = audit(self.format, self.image, lsn).unwrap_or(Header::Unsound);
-            so_far.meet(report, lsn, header)
+            so_far.meet(report, lsn, header)?;
+            match header {
+                Header::Unsound => report.line(format_args!("{}", self.unsound(lsn))),
+                Header::Sound | Header::Blank => Ok(()),
+            }
         })?;
         so_far.end_run(report)?;
         report.line(format_args!("{}", so_far.audited))?;
         Ok(Ok(so_far.audited))
+    }
+
+    /// The unsound header of a sector, and what it mends to.
+    fn unsound(&self, lsn: u32) -> Unsound {
+        let sector = &self.image[lsn as usize * STORED..];
+        let header = *sector.first_chunk().expect("a sector of the image is whole");
+        let mended = mend(self.format, self.image, lsn).ok();
+        Unsound { lsn, header: Bytes(header), mended: mended.map(Bytes) }
     }
 
     /// A line for each sector: its address and its fingerprint.

@@ -2,12 +2,16 @@
 
 mod common;
 
-use common::{BLANK, Ran, SECTOR, SOUND, Scratch, UNSOUND, command, ran, run, stored};
+use common::{BLANK, MENDABLE, Ran, SECTOR, SOUND, Scratch, UNSOUND, command, ran, run, stored};
 use std::fs::File;
 use std::io::{BufRead, BufReader, Read};
 use std::process::{Child, Command, Output, Stdio};
 use std::sync::atomic::{AtomicUsize, Ordering};
 use tables::sample;
+
+/// What a line says of an unsound header of letter u, and of letter m.
+const BEYOND: &str = "unsound header 000000010203, beyond mending";
+const MENDS: &str = "unsound header 00a700010302, mends to 000000010302";
 
 /// An image of format 2: a sector for each letter, its header sound, blank or unsound by it, its data all of one byte.
 fn headers(letters: &str, data: u8) -> Vec<u8> {
@@ -16,6 +20,7 @@ fn headers(letters: &str, data: u8) -> Vec<u8> {
             's' => SOUND,
             'b' => BLANK,
             'u' => UNSOUND,
+            'm' => MENDABLE,
             _ => unreachable!("{letter} is no header"),
         };
         stored(2, &[data; SECTOR], header)
@@ -30,9 +35,10 @@ fn audit(image: &[u8]) -> Ran {
     run(&["audit", "--format", "2", scratch.name()])
 }
 
-/// Audits the headers of these letters, before zeros and before other data.
+/// Audits the headers of these letters, before zeros and before other data. `BEYOND` and `MENDS` stand for their texts.
 fn check_audit(letters: &str, status: i32, lines: &[&str]) {
     let lines: String = lines.iter().map(|line| format!("{line}\n")).collect();
+    let lines = lines.replace("BEYOND", BEYOND).replace("MENDS", MENDS);
     for data in [0, 7] {
         let audited = audit(&headers(letters, data));
         assert_eq!(audited, ran(status, &lines, ""), "{letters}");
@@ -43,9 +49,40 @@ fn check_audit(letters: &str, status: i32, lines: &[&str]) {
 fn every_unsound_header_has_a_line() {
     check_audit("sssss", 0, &["5 headers: 5 sound, 0 blank, 0 unsound"]);
     let last = "5 headers: 3 sound, 0 blank, 2 unsound";
-    check_audit("ussus", 1, &["0: unsound header", "3: unsound header", last]);
+    check_audit("ussus", 1, &["0: BEYOND", "3: BEYOND", last]);
     let last = "2 headers: 0 sound, 0 blank, 2 unsound";
-    check_audit("uu", 1, &["0: unsound header", "1: unsound header", last]);
+    check_audit("uu", 1, &["0: BEYOND", "1: BEYOND", last]);
+}
+
+#[test]
+fn an_unsound_header_has_its_bytes_and_what_it_mends_to() {
+    let last = "3 headers: 0 sound, 0 blank, 3 unsound";
+    check_audit("mum", 1, &["0: MENDS", "1: BEYOND", "2: MENDS", last]);
+    let last = "5 headers: 1 sound, 2 blank, 2 unsound";
+    check_audit("bmbus", 1, &["0: blank header", "1: MENDS", "2: blank header", "3: BEYOND", last]);
+    let far = stored(2, &[0; SECTOR], [0, 0, 0x04, 0xd2, 0x77, 0xa0]);
+    let lines = "1234: unsound header 000004d277a0, mends to 000004d277a1\n\
+                 1235 headers: 1234 sound, 0 blank, 1 unsound\n";
+    assert_eq!(audit(&[headers(&"s".repeat(1234), 0), far].concat()), ran(1, lines, ""));
+}
+
+#[test]
+fn a_bad_byte_in_any_place_of_a_sound_or_a_blank_header_mends() {
+    for correct in [[0, 3, 0xa9, 0xfe, 0x76, 0x22], BLANK] {
+        for at in 0..6 {
+            let mut header = correct;
+            header[at] ^= 0x5c;
+            let [unsound, mended] = [header, correct].map(digits);
+            let line = format!("0: unsound header {unsound}, mends to {mended}\n");
+            let all = line + "1 headers: 0 sound, 0 blank, 1 unsound\n";
+            assert_eq!(audit(&stored(2, &[7; SECTOR], header)), ran(1, &all, ""));
+        }
+    }
+}
+
+/// The 12 hexadecimal digits of a header.
+fn digits(header: [u8; 6]) -> String {
+    header.map(|byte| format!("{byte:02x}")).concat()
 }
 
 #[test]
@@ -67,13 +104,13 @@ fn every_run_of_blank_headers_has_a_line() {
 fn a_sound_or_an_unsound_header_ends_a_run() {
     let last = "5 headers: 1 sound, 4 blank, 0 unsound";
     check_audit("bbsbb", 1, &["0-1: blank headers", "3-4: blank headers", last]);
-    let lines = ["0-1: blank headers", "2: unsound header", "3-4: blank headers"];
+    let lines = ["0-1: blank headers", "2: BEYOND", "3-4: blank headers"];
     let last = "5 headers: 0 sound, 4 blank, 1 unsound";
     check_audit("bbubb", 1, &[&lines[..], &[last]].concat());
-    let lines = ["0: unsound header", "2-4: blank headers", "5: unsound header", "7: blank header"];
+    let lines = ["0: BEYOND", "2-4: blank headers", "5: BEYOND", "7: blank header"];
     let last = "8 headers: 2 sound, 4 blank, 2 unsound";
     check_audit("usbbbusb", 1, &[&lines[..], &[last]].concat());
-    let lines = ["0: blank header", "1: unsound header", "2: blank header"];
+    let lines = ["0: blank header", "1: BEYOND", "2: blank header"];
     check_audit("bub", 1, &[&lines[..], &["3 headers: 0 sound, 2 blank, 1 unsound"]].concat());
 }
 
@@ -88,7 +125,7 @@ fn a_run_goes_on_from_step_to_step() {
         let end = sound + blank;
         let lines = [
             format!("{sound}-{}: blank headers", end - 1),
-            format!("{end}: unsound header"),
+            format!("{end}: BEYOND"),
             format!("{} headers: {sound} sound, {blank} blank, 1 unsound", end + 1),
         ];
         check_audit(&letters, 1, &lines.each_ref().map(String::as_str));
@@ -111,12 +148,9 @@ fn the_audit_finds_out_the_format_and_refuses_those_without_headers() {
     let raw = Scratch::new("disc.raw", &stored(2, &sample::image(), UNSOUND));
     let audited = run(&["audit", raw.name()]);
     assert_eq!((audited.status, &*audited.error), (Some(1), ""));
-    assert!(audited.out.starts_with("0: unsound header\n1: unsound header\n"));
-    assert!(
-        audited
-            .out
-            .ends_with("\n563: unsound header\n564 headers: 0 sound, 0 blank, 564 unsound\n")
-    );
+    assert!(audited.out.starts_with(&format!("0: {BEYOND}\n1: {BEYOND}\n")));
+    let counts = "564 headers: 0 sound, 0 blank, 564 unsound";
+    assert!(audited.out.ends_with(&format!("\n563: {BEYOND}\n{counts}\n")));
     let plain = Scratch::new("disc.iso", &sample::image());
     let refused = ran(1, "", &plain.refused("11: no header"));
     assert_eq!(run(&["audit", plain.name()]), refused);
@@ -223,11 +257,11 @@ fn progress_is_shown_on_a_terminal_and_cleared() {
 
 #[test]
 fn a_few_headers_are_audited_on_a_terminal_without_progress() {
-    let some = Scratch::new("terminal.raw", &headers("sbbus", 0));
+    let some = Scratch::new("terminal.raw", &headers("sbbums", 0));
     if let Some(shown) = on_terminal(&format!("audit --format 2 '{}'", some.name())) {
-        let lines =
-            ["1-2: blank headers", "3: unsound header", "5 headers: 2 sound, 2 blank, 1 unsound"];
-        assert_eq!(shown, lines.map(|line| format!("{line}\r\n")).concat());
+        let lines = ["1-2: blank headers", &format!("3: {BEYOND}"), &format!("4: {MENDS}")];
+        let counts = "6 headers: 2 sound, 2 blank, 2 unsound\r\n";
+        assert_eq!(shown, lines.map(|line| format!("{line}\r\n")).concat() + counts);
     }
 }
 
@@ -237,7 +271,7 @@ fn a_long_run_of_blank_headers_is_a_clean_line_on_a_terminal() {
     if let Some(shown) = on_terminal(&format!("audit --format 2 '{}'", large.name())) {
         let lines = shown.lines().map(|line| line.rsplit(CLEARED).next().unwrap_or(line));
         let counts = "200000 headers: 0 sound, 199999 blank, 1 unsound";
-        let expected = ["0: unsound header", "1-199999: blank headers", counts];
+        let expected = [&format!("0: {BEYOND}"), "1-199999: blank headers", counts];
         assert!(lines.eq(expected), "{shown:?}");
     }
 }

@@ -9,10 +9,11 @@ use std::path::{Path, PathBuf};
 use std::process::{Command, Output};
 
 pub const SECTOR: usize = 2048;
-/// A header that is sound, one that is blank, and one that is neither.
+/// A header that is sound, one that is blank, one that is neither and beyond mending, and the sound one with a bad byte.
 pub const SOUND: [u8; 6] = [0, 0, 0, 1, 3, 2];
 pub const BLANK: [u8; 6] = [0; 6];
 pub const UNSOUND: [u8; 6] = [0, 0, 0, 1, 2, 3];
+pub const MENDABLE: [u8; 6] = [0, 0xa7, 0, 1, 3, 2];
 
 /// A file or folder that is removed when it is dropped.
 pub struct Scratch(PathBuf);
