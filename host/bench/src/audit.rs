@@ -3,27 +3,32 @@
 use crate::clock::Row;
 use crate::{PLACES, room};
 use generate::Rng;
-use generate::header::{Verdict, correct, damaged};
+use generate::header::{Header, Verdict, correct, damaged};
 use std::hint::black_box;
 
 const STORED: usize = 2064;
-const HEADERS: usize = 4096;
+pub const HEADERS: usize = 4096;
 /// One header in so many is damaged, and the next one blank.
 const RARE: usize = 64;
 
-/// An image of format 2. The correct headers are all different.
-fn image() -> &'static [u8] {
+/// An image of format 2, with what is made of correct headers, which are all different.
+pub fn image_of(header: impl Fn(&mut Rng, usize, Header) -> Header) -> &'static [u8] {
     let mut rng = Rng::new(1);
     let image = room(HEADERS * STORED, 0);
     rng.fill(image);
     for (lsn, sector) in image.chunks_exact_mut(STORED).enumerate() {
         let correct = correct((0x03_0000 + lsn as u32).to_be_bytes());
-        sector[..6].copy_from_slice(&match lsn % RARE {
-            1 => damaged(&mut rng, correct),
-            2 => [0; 6],
-            _ => correct,
-        });
+        sector[..6].copy_from_slice(&header(&mut rng, lsn, correct));
     }
+    image
+}
+
+fn image() -> &'static [u8] {
+    let image = image_of(|rng, lsn, correct| match lsn % RARE {
+        1 => damaged(rng, correct),
+        2 => [0; 6],
+        _ => correct,
+    });
     check(image);
     image
 }
@@ -37,14 +42,18 @@ fn check(image: &[u8]) {
     }
 }
 
-fn times_alpha(value: u8) -> u8 {
+pub const fn times_alpha(value: u8) -> u8 {
     let doubled = value << 1;
     if value & 0x80 == 0 { doubled } else { doubled ^ 0x1d }
 }
 
 /// Nothing for a sector that is not in the image.
+pub fn sector(image: &[u8], lsn: usize) -> Option<&[u8]> {
+    image.get(lsn * STORED..)?.get(..STORED)
+}
+
 fn plain_audit(image: &[u8], lsn: usize) -> Option<Verdict> {
-    let sector = image.get(lsn * STORED..)?.get(..STORED)?;
+    let sector = sector(image, lsn)?;
     let (mut any, mut at_one, mut at_alpha) = (0, 0, 0);
     for &byte in &sector[..6] {
         any |= byte;

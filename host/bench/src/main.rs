@@ -1,12 +1,13 @@
-//! Times the static library beside memcpy, memcmp, a plain audit of headers, and the customer's
-//! `digest`, `decode_string`, `string_bytes`, `read_area` and `read_toc`, in one process and over
-//! the same warm buffers. Each time is the best of many rounds, in which the two take turns. Build
-//! it for release.
+//! Times the static library beside memcpy, memcmp, a plain audit and a plain mending of headers, and
+//! the customer's `digest`, `decode_string`, `string_bytes`, `read_area` and `read_toc`, in one process
+//! and over the same warm buffers. Each time is the best of many rounds, in which the two take turns.
+//! Build it for release.
 
 mod area;
 mod audit;
 mod clock;
 mod disc;
+mod mend;
 mod text;
 
 use clock::Row;
@@ -152,6 +153,7 @@ fn main() {
     comparing();
     fingerprints();
     audit::headers();
+    mend::headers();
     text::decoding();
     text::strings();
     area::tables();
