@@ -115,7 +115,7 @@ static inline const char *scarletbook_refusal_word(uint8_t refusal)
         "set not held",
         "short page",
         "no header",
-        "",
+        "", /* 12 and 13 are no refusals */
         "",
         "beyond mending",
     };

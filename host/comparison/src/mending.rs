@@ -26,9 +26,9 @@ const IN_DOCUMENT: &str = "one byte changed in the document's";
 /// Those that mend, and those beyond mending.
 const TWO: [&str; 2] = ["two bytes changed and mended", "two bytes changed and beyond mending"];
 const RANDOM: [&str; 2] = ["random and mended", "random and beyond mending"];
-/// The faults of a question: the first one refuses it.
-const FAULTS: [&str; 9] =
-    ["none", "14", "8", "11", "11 and 14", "11 and 8", "1", "1 and 14", "1 and 8"];
+/// The faults of a question, of which the first refuses it: of its format in rows, of its sector in columns.
+const FAULTS: [[&str; 3]; 3] =
+    [["none", "14", "8"], ["11", "11 and 14", "11 and 8"], ["1", "1 and 14", "1 and 8"]];
 
 pub struct Mending {
     pub many: Kind,
@@ -42,7 +42,7 @@ impl Mending {
         Mending {
             many: Kind::new("mend, headers", &[&others[..], &TWO, &RANDOM].concat()),
             images: Kind::new("mend, images", &["many headers", "refusals"]),
-            refusals: Kind::new("mend, refusals", &FAULTS),
+            refusals: Kind::new("mend, refusals", FAULTS.as_flattened()),
         }
     }
 
@@ -170,13 +170,17 @@ impl Question {
     }
 
     fn faults(&self) -> &'static str {
-        let format = [3, 3, 0].get(self.format as usize).copied().unwrap_or(6);
-        let sector = match (self.is_missing(), self.mended) {
-            (true, _) => 2,
-            (false, None) => 1,
-            (false, Some(_)) => 0,
+        let format = match self.format {
+            2 => 0,
+            0 | 1 => 1,
+            3.. => 2,
         };
-        FAULTS[format + sector]
+        let sector = match (self.is_missing(), self.mended) {
+            (false, Some(_)) => 0,
+            (false, None) => 1,
+            (true, _) => 2,
+        };
+        FAULTS[format][sector]
     }
 }
 

@@ -68,12 +68,11 @@ impl fmt::Display for Bytes {
     }
 }
 
-/// An unsound header.
+/// An unsound header, and what it mends to or that it is beyond mending.
 struct Unsound {
     lsn: u32,
     header: Bytes,
-    /// What it mends to; nothing if it is beyond mending.
-    mended: Option<Bytes>,
+    mended: Result<Bytes, Refusal>,
 }
 
 impl fmt::Display for Unsound {
@@ -81,8 +80,8 @@ impl fmt::Display for Unsound {
         let Unsound { lsn, header, mended } = self;
         write!(f, "{lsn}: unsound header {header}, ")?;
         match mended {
-            Some(mended) => write!(f, "mends to {mended}"),
-            None => write!(f, "beyond mending"),
+            Ok(mended) => write!(f, "mends to {mended}"),
+            Err(refusal) => f.write_str(refusal.word()),
         }
     }
 }
@@ -156,7 +155,7 @@ impl Sectors<'_> {
     fn unsound(&self, lsn: u32) -> Unsound {
         let sector = &self.image[lsn as usize * STORED..];
         let header = *sector.first_chunk().expect("a sector of the image is whole");
-        let mended = mend(self.format, self.image, lsn).ok();
+        let mended = mend(self.format, self.image, lsn);
         Unsound { lsn, header: Bytes(header), mended: mended.map(Bytes) }
     }
 
