@@ -22,14 +22,14 @@ const fn logarithms() -> [u8; 256] {
 
 /// Nothing for a sector that is not in the image or whose header is beyond mending.
 fn plain_mend(image: &[u8], lsn: usize) -> Option<Header> {
-    let mut header: Header = *sector(image, lsn)?.first_chunk()?;
+    let header: &Header = sector(image, lsn)?.first_chunk()?;
     let (mut at_one, mut at_alpha) = (0, 0);
-    for byte in header {
+    for &byte in header {
         at_one ^= byte;
         at_alpha = times_alpha(at_alpha) ^ byte;
     }
     if at_one == 0 && at_alpha == 0 {
-        return Some(header);
+        return Some(*header);
     }
     if at_one == 0 || at_alpha == 0 {
         return None;
@@ -37,8 +37,9 @@ fn plain_mend(image: &[u8], lsn: usize) -> Option<Header> {
     let [one, alpha] = [at_one, at_alpha].map(|value| LOGARITHMS[usize::from(value)]);
     let exponent = (usize::from(alpha) + 255 - usize::from(one)) % 255;
     let place = 5usize.checked_sub(exponent)?;
-    header[place] ^= at_one;
-    Some(header)
+    let mut mended = *header;
+    mended[place] ^= at_one;
+    Some(mended)
 }
 
 /// Library and plain mending must answer the same for each header.
