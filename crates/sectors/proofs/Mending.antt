@@ -1,5 +1,5 @@
--- Mending as the program does it: where the power of α is found that takes a header's value at 1 to its value at α, the byte that it tells is changed, and the
--- header so changed mends; where there is none, no header does. An answer with the number of the definition means what the contract says. Assumes nothing.
+-- Mending as the program does it: where a power of α that is a place's takes a header's value at 1 to its value at α, the header changed at that place
+-- mends; where none does, no header mends. An answer that is the definition's means what the contract says. Assumes nothing.
 use mathlib.Core.Path.{_≡_, sym, ap, _∙_}
 use mathlib.Core.List.{List}
 use mathlib.Core.Logic.{_↔_}
@@ -19,7 +19,7 @@ use Rattle.sectors.specs.XorLaws.{sum-lt, sum-self}
 use Rattle.sectors.specs.HeaderLaws.{zeros-multiple}
 use Rattle.sectors.specs.ChangeLaws.{one-changed, alpha-changed}
 use Rattle.sectors.specs.DistanceLaws.{six-set, unchanged, alpha-tells-place}
-use Rattle.sectors.specs.MendLaws.{found, lost, mend-means}
+use Rattle.sectors.specs.MendLaws.{found, none-found, mend-means}
 use Rattle.sectors.specs.declared.mend.Mended.{Mended}
 
 -- a header changed by s at the place that n bytes stand behind
@@ -30,7 +30,7 @@ changedAt n s h = set h (5 - n) (getD h (5 - n) 0 ⊕ s)
 module _ (h : List ℕ) (six : SixBytes h) {s t n : ℕ} (at-one : s ≡ atOne h) (at-alpha : t ≡ atAlpha h) (least : LeastExponent s t n) where
   pub beyond-answer : 6 ≤ n → unmended beyondMending ≡ mendedOf h
   beyond-answer far =
-      sym (lost h six (record {
+      sym (none-found h six (record {
         none-mends = λ w.
             let q = w .mends in
             let takes : timesPower (5 - q .place) s ≡ t = rw (at-one, at-alpha) (sym (alpha-tells-place h (w .mended) six q)) in
@@ -68,11 +68,14 @@ module _ (h : List ℕ) (six : SixBytes h) {s t n : ℕ} (at-one : s ≡ atOne h
 
 -- what the contract of `mend` says of an answer
 module _ (format : ℕ) (image : List ℕ) (lsn : ℕ) where
+  abbrev BackFrom : Mended → List ℕ → Type 0
+  BackFrom r correct = HeaderIn (OneByteChanged correct) format image lsn → r ≡ mendedTo correct
+
   pub right : ((i : ℕ) → Fits w8 (getD image i 0)) → (r : Mended) → r ≡ mendOf format image lsn
       → (r ≡ mendOf format image lsn)
       × ((r .refusal ≡ 0 ↔ HeaderIn Mendable format image lsn)
       × ((r .refusal ≡ 0 → Mends (headerAt image lsn) (r .header))
-      × ((r .refusal ≡ beyondMending ↔ HeaderIn BeyondMending format image lsn) × ((correct : List ℕ) → HeaderIn (OneByteChanged correct) format image lsn → r ≡ mendedTo correct))))
+      × ((r .refusal ≡ beyondMending ↔ HeaderIn BeyondMending format image lsn) × ((correct : List ℕ) → BackFrom r correct))))
   right bytes r e =
       let means = mend-means format image lsn (λ i. omega (arith, bytes i)) in
-      (e, rw e (means .mendable-iff, (means .header-mends, (means .beyond-iff, means .changed-back))))
+      (e, rw e (means .mendable-iff, (means .header-mends, (means .beyond-iff, means .comes-back))))

@@ -1,5 +1,5 @@
 -- The audit's answers tell each other apart, and each of the three verdicts means what it says: of any image of bytes, by the tests that
--- decide sound and blank. Assumes nothing.
+-- decide sound and blank. What the checks before it give is said for any answer, that of mending too. Assumes nothing.
 use mathlib.Core.Path.{_≡_, refl, sym, ap, _∙_}
 use mathlib.Core.Bool.{Bool, true, false, cond}
 use mathlib.Core.List.{List}

@@ -7,14 +7,9 @@ use native.Mathlib.Nat.{sub-zero, suc-sub-suc, le-of-suc-le-suc, not-suc-le-zero
 use lib.ListN.{length, getD, set}
 use Rattle.sectors.specs.Field.{_⊕_, timesAlpha}
 use Rattle.sectors.specs.Header.{atOne, atAlpha}
-use Rattle.sectors.specs.Log.{timesPower}
+use Rattle.sectors.specs.Log.{repeated, timesPower}
 use Rattle.sectors.specs.XorLaws.{sums, sum-lt, sum-assoc}
 use Rattle.sectors.specs.AlphaLaws.{linear, alpha-lt}
-
--- f, n times over
-repeated : (ℕ → ℕ) → ℕ → ℕ → ℕ
-repeated f zero s = s
-repeated f (suc n) s = repeated f n (f s)
 
 -- a polynomial's value by Horner's rule, from v on, where f is the product with the argument
 abbrev value : (ℕ → ℕ) → ℕ → List ℕ → ℕ
@@ -40,25 +35,18 @@ module _ (f : ℕ → ℕ) (linear-f : (a b : ℕ) → a < 256 → b < 256 → f
       changed rest (λ i. bytes (suc i)) (f v ⊕ a) k s (sum-lt (f-lt v v-lt) (bytes 0)) s-lt (le-of-suc-le-suc inside)
       ∙ ap (λ (n : ℕ). value f v (a ∷ rest) ⊕ repeated f n s) (sym (suc-sub-suc (length rest) (suc k)))
 
-by-one : (n s : ℕ) → repeated (λ a. a) n s ≡ s
+unmoved : (n s : ℕ) → repeated (λ a. a) n s ≡ s
 unfolding repeated
-by-one zero s = refl
-by-one (suc n) s = by-one n s
-
-by-alpha : (n s : ℕ) → repeated timesAlpha n s ≡ timesPower n s
-unfolding repeated timesPower
-by-alpha zero s = refl
-by-alpha (suc n) s = by-alpha n (timesAlpha s)
+unmoved zero s = refl
+unmoved (suc n) s = unmoved n s
 
 module _ (h : List ℕ) (bytes : (i : ℕ) → getD h i 0 < 256) (k s : ℕ) (s-lt : s < 256) (inside : k < length h) where
   pub one-changed : atOne (set h k (getD h k 0 ⊕ s)) ≡ atOne h ⊕ s
   unfolding atOne
   one-changed =
       changed (λ a. a) (λ a b _ _. refl) (λ a a-lt. a-lt) h bytes 0 k s (suc-le-suc zero-le) s-lt inside
-      ∙ ap (λ (n : ℕ). atOne h ⊕ n) (by-one (length h - suc k) s)
+      ∙ ap (λ (n : ℕ). atOne h ⊕ n) (unmoved (length h - suc k) s)
 
   pub alpha-changed : atAlpha (set h k (getD h k 0 ⊕ s)) ≡ atAlpha h ⊕ timesPower (length h - suc k) s
-  unfolding atAlpha
-  alpha-changed =
-      changed timesAlpha linear (λ a a-lt. alpha-lt a-lt) h bytes 0 k s (suc-le-suc zero-le) s-lt inside
-      ∙ ap (λ (n : ℕ). atAlpha h ⊕ n) (by-alpha (length h - suc k) s)
+  unfolding atAlpha timesPower
+  alpha-changed = changed timesAlpha linear (λ a a-lt. alpha-lt a-lt) h bytes 0 k s (suc-le-suc zero-le) s-lt inside

@@ -2,14 +2,12 @@
 -- is the change times a power of α that tells the place, so that only one header mends it. Assumes nothing.
 use mathlib.Core.Path.{_≡_, refl, sym, ap, ap₂, _∙_}
 use mathlib.Core.Logic.{_⊎_, inl, inr, ⊎-elim, _≢_}
-use mathlib.Core.Bool.{Bool, true, false}
 use mathlib.Core.List.{List, [], _∷_}
 use Prim.Native.Nat.{ℕ, zero, suc, _+_, _-_, _%_, _<_}
+use native.Mathlib.Decide.{ℕ-discrete}
 use native.Mathlib.Omega.{arith}
-use lib.Dec.{eqb}
 use lib.ListN.{length, getD, set, length-set}
 use lib.Seq.{ext-getD, getD-set-same, getD-set-other, set-getD}
-use borrow.Author.Tests.{eqb-true, eqb-false}
 use Rattle.sectors.specs.Field.{_⊕_, timesAlpha}
 use Rattle.sectors.specs.Header.{SixBytes, Multiple, timesRoot, product, atOne, atAlpha}
 use Rattle.sectors.specs.Log.{timesPower, log}
@@ -20,14 +18,14 @@ use Rattle.sectors.specs.HeaderLaws.{multiple-zeros}
 use Rattle.sectors.specs.LogLaws.{log-times}
 use Rattle.sectors.specs.ChangeLaws.{one-changed, alpha-changed}
 
--- ---- six bytes
-
-pub or-other : (i k : ℕ) → (i ≡ k) ⊎ (i ≢ k)
-or-other i k = go (eqb i k) refl
+or-other : (i k : ℕ) → (i ≡ k) ⊎ (i ≢ k)
+or-other i k = go (ℕ-discrete i k)
   where
-    go : (b : Bool) → eqb i k ≡ b → (i ≡ k) ⊎ (i ≢ k)
-    go true e = inl (eqb-true i k e)
-    go false e = inr (eqb-false i k e)
+    go : Dec (i ≡ k) → (i ≡ k) ⊎ (i ≢ k)
+    go (yes e) = inl e
+    go (no other) = inr other
+
+-- ---- six bytes
 
 set-bytes : (h : List ℕ) (k v : ℕ) → ((i : ℕ) → getD h i 0 < 256) → v < 256 → (i : ℕ) → getD (set h k v) i 0 < 256
 set-bytes [] k v bytes v-lt i = bytes i
@@ -153,5 +151,8 @@ multiples-apart g m p q j k j-lt k-lt equal =
       place = k;
       inside = k-lt;
       equal-but = λ i other.
-          ⊎-elim (λ e. rw e (getD-set-same g j (getD m j 0) 0 (omega (arith, g-six .its-length)))) (λ d. getD-set-other g j i _ 0 d ∙ equal i d other) (or-other i j);
+          ⊎-elim
+          (λ e. rw e (getD-set-same g j (getD m j 0) 0 (omega (arith, g-six .its-length))))
+          (λ d. getD-set-other g j i _ 0 d ∙ equal i d other)
+          (or-other i j);
     })

@@ -5,10 +5,14 @@ use Prim.Native.Nat.{ℕ, zero, suc, _-_, _<_, _≤_}
 use lib.ListN.{getD, set, replicate}
 use Rattle.sectors.specs.Field.{timesAlpha}
 
--- the product with α to the n: times α, n times over
+-- f, n times over
+unfoldable pub repeated : (ℕ → ℕ) → ℕ → ℕ → ℕ
+repeated f zero a = a
+repeated f (suc n) a = repeated f n (f a)
+
+-- the product with α to the n
 unfoldable pub timesPower : ℕ → ℕ → ℕ
-timesPower zero a = a
-timesPower (suc n) a = timesPower n (timesAlpha a)
+timesPower n a = repeated timesAlpha n a
 
 -- "the 255 nonzero field values"
 abbrev pub nonzeroCount : ℕ
@@ -23,7 +27,7 @@ powersFrom a (suc n) = a ∷ powersFrom (timesAlpha a) n
 unfoldable pub powers : List ℕ
 powers = powersFrom 1 nonzeroCount
 
--- a table in which the entry of each of these powers, which is at the power less 1, has become its exponent, the first one's n
+-- a table with n, n + 1, .. stored as the entries of these powers, the entry of x at x - 1
 unfoldable pub stored : ℕ → List ℕ → List ℕ → List ℕ
 stored n [] table = table
 stored n (power ∷ rest) table = stored (suc n) rest (set table (power - 1) n)
@@ -36,7 +40,7 @@ logs = stored 0 powers (replicate nonzeroCount 0)
 unfoldable pub log : ℕ → ℕ
 log x = getD logs (x - 1) 0
 
--- ---- a step of the program, no rule of 02: the exponent of the least power of α that takes a to b, 255 or more if none does
+-- ---- a step of the program, no rule of 02: the least n for which α to the n times a is b; 255 or more if there is none
 
 pub record LeastExponent (a b n : ℕ) : Type 0 where
   pub takes : n < nonzeroCount → timesPower n a ≡ b

@@ -1,6 +1,6 @@
 -- The powers of α and the logarithms. The rule of the table of logarithms is two tests that antt computes over the whole of it; that the powers come
--- round after 255 is a third. So the difference of two logarithms is the exponent of the least power of α that takes one value to the other. Assumes
--- nothing.
+-- round after 255 is a third. So the difference of two logarithms modulo 255 is the least n for which α to the n takes one value to the other.
+-- Assumes nothing.
 use mathlib.Core.Path.{_≡_, refl, sym, ap, _∙_}
 use mathlib.Core.Bool.{Bool, true, false}
 use mathlib.Core.List.{List}
@@ -14,12 +14,12 @@ use borrow.Author.Tests.{ltb-true, ltb-false}
 use Rattle.sectors.specs.Field.{timesAlpha, _⊕_}
 use Rattle.sectors.specs.TableLaws.{values, agree}
 use Rattle.sectors.specs.AlphaLaws.{alpha-zero, alpha-lt, only-zero}
-use Rattle.sectors.specs.Log.{timesPower, powersFrom, powers, stored, logs, log, nonzeroCount, LeastExponent}
+use Rattle.sectors.specs.Log.{repeated, timesPower, powersFrom, powers, stored, logs, log, nonzeroCount, LeastExponent}
 
 -- ---- the powers of α
 
 powers-at : (a k n : ℕ) → n < k → getD (powersFrom a k) n 0 ≡ timesPower n a
-unfolding powersFrom timesPower
+unfolding powersFrom timesPower repeated
 powers-at a zero n h = absurd (omega arith)
 powers-at a (suc k) zero h = refl
 powers-at a (suc k) (suc n) h = powers-at (timesAlpha a) k n (omega arith)
@@ -30,47 +30,47 @@ length-powers a zero = refl
 length-powers a (suc k) = ap suc (length-powers (timesAlpha a) k)
 
 power-zero : (n : ℕ) → timesPower n 0 ≡ 0
-unfolding timesPower
+unfolding timesPower repeated
 power-zero zero = refl
 power-zero (suc n) = ap (timesPower n) alpha-zero ∙ power-zero n
 
 power-only-zero : (n a : ℕ) → a < 256 → timesPower n a ≡ 0 → a ≡ 0
-unfolding timesPower
+unfolding timesPower repeated
 power-only-zero zero a h e = e
 power-only-zero (suc n) a h e = only-zero a h (power-only-zero n (timesAlpha a) (alpha-lt h) e)
 
 power-add : (m n a : ℕ) → timesPower (m + n) a ≡ timesPower n (timesPower m a)
-unfolding timesPower
+unfolding timesPower repeated
 power-add zero n a = ap (λ (k : ℕ). timesPower k a) (zero-add n)
 power-add (suc m) n a = ap (λ (k : ℕ). timesPower k a) (suc-add m n) ∙ power-add m n (timesAlpha a)
 
 comes-round : timesPower nonzeroCount 1 ≡ 1
-unfolding timesPower timesAlpha _⊕_
+unfolding timesPower repeated timesAlpha _⊕_
 comes-round = refl
 
-rounds : (q r : ℕ) → timesPower (q * 255 + r) 1 ≡ timesPower r 1
+rounds : (q r : ℕ) → timesPower (q * nonzeroCount + r) 1 ≡ timesPower r 1
 rounds zero r = ap (λ (k : ℕ). timesPower k 1) (omega arith)
 rounds (suc q) r =
-    ap (λ (k : ℕ). timesPower k 1) (omega (arith, suc-mul q 255)) ∙ power-add 255 (q * 255 + r) 1
-    ∙ ap (timesPower (q * 255 + r)) comes-round ∙ rounds q r
+    ap (λ (k : ℕ). timesPower k 1) (omega (arith, suc-mul q nonzeroCount)) ∙ power-add nonzeroCount (q * nonzeroCount + r) 1
+    ∙ ap (timesPower (q * nonzeroCount + r)) comes-round ∙ rounds q r
 
-period : (n : ℕ) → timesPower n 1 ≡ timesPower (n % 255) 1
-period n = ap (λ (k : ℕ). timesPower k 1) (sym (div-add-mod' n 255)) ∙ rounds (n / 255) (n % 255)
+period : (n : ℕ) → timesPower n 1 ≡ timesPower (n % nonzeroCount) 1
+period n = ap (λ (k : ℕ). timesPower k 1) (sym (div-add-mod' n nonzeroCount)) ∙ rounds (n / nonzeroCount) (n % nonzeroCount)
 
 -- ---- "its rule shown over the whole of it": of the 255 entries, each is below 255, α to it is the entry's number, and the entry of each power of α
 -- is its exponent. (A list that is an argument is computed once.)
 
 numbersOf : List ℕ → List ℕ → List ℕ
-numbersOf p l = values (λ k. getD p (getD l k 0) 0) 0 255
+numbersOf p l = values (λ k. getD p (getD l k 0) 0) 0 nonzeroCount
 
-numbers-test : numbersOf powers logs ≡ values suc 0 255
+numbers-test : numbersOf powers logs ≡ values suc 0 nonzeroCount
 unfolding numbersOf values powers logs powersFrom stored timesAlpha _⊕_
 numbers-test = refl
 
 exponentsOf : List ℕ → List ℕ → List ℕ
-exponentsOf p l = values (λ n. getD l (getD p n 0 - 1) 0) 0 255
+exponentsOf p l = values (λ n. getD l (getD p n 0 - 1) 0) 0 nonzeroCount
 
-exponents-test : exponentsOf powers logs ≡ values (λ n. n) 0 255
+exponents-test : exponentsOf powers logs ≡ values (λ n. n) 0 nonzeroCount
 unfolding exponentsOf values powers logs powersFrom stored timesAlpha _⊕_
 exponents-test = refl
 
@@ -79,48 +79,48 @@ module _ (x : ℕ) (nonzero : 0 < x) (byte : x < 256) where
   unfolding log numbersOf
   power-there =
       let e : suc (x - 1) ≡ x = omega arith in
-      agree (λ k. getD powers (getD logs k 0) 0) suc 255 numbers-test (x - 1) (omega arith) ∙ e
+      agree (λ k. getD powers (getD logs k 0) 0) suc nonzeroCount numbers-test (x - 1) (omega arith) ∙ e
 
   pub log-lt : log x < nonzeroCount
   unfolding powers
-  log-lt = go (ltb (log x) 255) refl
+  log-lt = go (ltb (log x) nonzeroCount) refl
     where
-      go : (inside : Bool) → ltb (log x) 255 ≡ inside → log x < 255
-      go true e = ltb-true (log x) 255 e
-      go false e = absurd (omega (arith, sym power-there ∙ List·getD-eq-default powers 0 (rw (length-powers 1 255) (ltb-false (log x) 255 e))))
+      go : (inside : Bool) → ltb (log x) nonzeroCount ≡ inside → log x < nonzeroCount
+      go true e = ltb-true (log x) nonzeroCount e
+      go false e = absurd (omega (arith, sym power-there ∙ List·getD-eq-default powers 0 (rw (length-powers 1 nonzeroCount) (ltb-false (log x) nonzeroCount e))))
 
   pub power-log : timesPower (log x) 1 ≡ x
   unfolding powers
-  power-log = sym (powers-at 1 255 (log x) log-lt) ∙ power-there
+  power-log = sym (powers-at 1 nonzeroCount (log x) log-lt) ∙ power-there
 
 pub log-power : (n : ℕ) → n < nonzeroCount → log (timesPower n 1) ≡ n
 unfolding log exponentsOf powers
 log-power n h =
-    ap (λ (p : ℕ). getD logs (p - 1) 0) (sym (powers-at 1 255 n h))
-    ∙ agree (λ n. getD logs (getD powers n 0 - 1) 0) (λ n. n) 255 exponents-test n h
+    ap (λ (p : ℕ). getD logs (p - 1) 0) (sym (powers-at 1 nonzeroCount n h))
+    ∙ agree (λ n. getD logs (getD powers n 0 - 1) 0) (λ n. n) nonzeroCount exponents-test n h
 
 -- ---- from one value to another
 
 module _ (a : ℕ) (a-nonzero : 0 < a) (a-byte : a < 256) where
-  as-power : (n : ℕ) → timesPower n a ≡ timesPower ((log a + n) % 255) 1
+  as-power : (n : ℕ) → timesPower n a ≡ timesPower ((log a + n) % nonzeroCount) 1
   as-power n = ap (timesPower n) (sym (power-log a a-nonzero a-byte)) ∙ sym (power-add (log a) n 1) ∙ period (log a + n)
 
-  pub log-times : (n : ℕ) → log (timesPower n a) ≡ (log a + n) % 255
-  log-times n = ap log (as-power n) ∙ log-power ((log a + n) % 255) (mod-lt (log a + n) (omega arith))
+  pub log-times : (n : ℕ) → log (timesPower n a) ≡ (log a + n) % nonzeroCount
+  log-times n = ap log (as-power n) ∙ log-power ((log a + n) % nonzeroCount) (mod-lt (log a + n) (omega arith))
 
-  -- the difference of the logarithms
-  pub difference : (b : ℕ) → 0 < b → b < 256 → LeastExponent a b ((log b + 255 - log a) % 255)
+  -- the difference of the logarithms modulo 255
+  pub difference : (b : ℕ) → 0 < b → b < 256 → LeastExponent a b ((log b + nonzeroCount - log a) % nonzeroCount)
   difference b b-nonzero b-byte =
       let a-log = log-lt a a-nonzero a-byte in
       let b-log = log-lt b b-nonzero b-byte in
       record {
         takes = λ h.
-            as-power ((log b + 255 - log a) % 255) ∙ ap (λ (k : ℕ). timesPower k 1) (omega (arith, a-log, b-log)) ∙ power-log b b-nonzero b-byte;
+            as-power ((log b + nonzeroCount - log a) % nonzeroCount) ∙ ap (λ (k : ℕ). timesPower k 1) (omega (arith, a-log, b-log)) ∙ power-log b b-nonzero b-byte;
         is-least = λ k e. omega (arith, a-log, b-log, sym (ap log e) ∙ log-times k);
       }
 
 pub same-exponent : (a : ℕ) → LeastExponent a a 0
-unfolding timesPower
+unfolding timesPower repeated
 same-exponent a = record { takes = λ h. refl; is-least = λ k e. omega arith }
 
 pub from-zero : (b : ℕ) → 0 ≢ b → LeastExponent 0 b nonzeroCount

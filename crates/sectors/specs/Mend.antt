@@ -10,7 +10,7 @@ use Rattle.sectors.specs.Header.{SixBytes, Multiple, isMultiple, sixZero
 use Rattle.sectors.specs.Audit.{headerSize, headerOr}
 use Rattle.sectors.specs.declared.mend.Mended.{Mended}
 
--- "differ .. in at most one place": they are equal at every other
+-- "differ .. in at most one place": equal at every place but that one
 abbrev pub EqualBut : ℕ → List ℕ → List ℕ → Type 0
 EqualBut place h m = (i : ℕ) → i ≢ place → getD h i 0 ≡ getD m i 0
 
@@ -32,11 +32,11 @@ mendedTo m = record { refusal = 0; header = m }
 unfoldable pub unmended : ℕ → Mended
 unmended number = record { refusal = number; header = sixZeros }
 
--- The headers that differ from one in at most one place are 6 x 256: the byte n % 256 at the place n / 256.
+-- Each header that differs from h in at most one place is one of 6 x 256 candidates, h itself six of them: the byte n % 256 at the place n / 256.
 unfoldable pub candidate : List ℕ → ℕ → List ℕ
 candidate h n = set h (n / 256) (n % 256)
 
--- of the first n the one that is a multiple; there is at most one (`multiples-apart` of `DistanceLaws`)
+-- among the first n candidates the header that is a multiple; no two that differ are (`multiples-apart` of `DistanceLaws`)
 unfoldable pub mendedIn : List ℕ → ℕ → Mended
 mendedIn h zero = unmended beyondMending
 mendedIn h (suc n) = cond (isMultiple (candidate h n)) (mendedTo (candidate h n)) (mendedIn h n)

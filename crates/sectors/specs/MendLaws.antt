@@ -5,7 +5,7 @@ use mathlib.Core.Logic.{_↔_, _≢_, _⊎_, inl, inr, ⊎-elim}
 use mathlib.Core.Bool.{Bool, true, false, cond, true≢false}
 use mathlib.Core.List.{List}
 use Prim.Native.Nat.{ℕ, zero, suc, _+_, _*_, _/_, _%_, _<_, _≤_}
-use native.Mathlib.Nat.{mod-lt}
+use native.Mathlib.Nat.{mod-lt, eq-or-lt-of-le, le-of-suc-le-suc}
 use native.Mathlib.Omega.{arith}
 use lib.Arith.{digits-div, digits-mod, digits-lt}
 use lib.ListN.{getD, set}
@@ -16,7 +16,7 @@ use Rattle.sectors.specs.HeaderLaws.{finds-multiples}
 use Rattle.sectors.specs.Audit.{HeaderIn, headerSize, headerAt}
 use Rattle.sectors.specs.AuditLaws.{There, header-six, there-checked, there, in-image}
 use Rattle.sectors.specs.Mend.{Mends, mendedTo, unmended, candidate, mendedIn, mendedOf, mendOf, Mendable, BeyondMending, OneByteChanged}
-use Rattle.sectors.specs.DistanceLaws.{or-other, six-set, set-equal, multiple-six, only-one}
+use Rattle.sectors.specs.DistanceLaws.{six-set, set-equal, multiple-six, only-one}
 use Rattle.sectors.specs.declared.mend.Mended.{Mended}
 
 -- ---- the search
@@ -67,9 +67,9 @@ module _ (h : List ℕ) (six : SixBytes h) where
           ⊎ (NoneBelow (suc n) × (cond test (mendedTo (candidate h n)) (mendedIn h n) ≡ unmended beyondMending))
       go true e before = inl (candidate h n, (candidate-mends n l e, refl))
       go false e (inl found) = inl found
-      go false e (inr none) = inr ((λ k below. ⊎-elim (λ same. rw same e) (λ other. none .0 k (omega arith)) (or-other k n)), none .1)
+      go false e (inr none) = inr ((λ k below. ⊎-elim (λ same. rw same e) (none .0 k) (eq-or-lt-of-le (le-of-suc-le-suc below))), none .1)
 
-  pub mended-case : Found (mendedOf h) ⊎ (BeyondMending h × (mendedOf h ≡ unmended beyondMending))
+  mended-case : Found (mendedOf h) ⊎ (BeyondMending h × (mendedOf h ≡ unmended beyondMending))
   unfolding mendedOf
   mended-case = ⊎-elim inl (λ none. inr (record { none-mends = never (none .0) }, none .1)) (searched (headerSize * 256) (omega arith))
     where
@@ -84,8 +84,8 @@ module _ (h : List ℕ) (six : SixBytes h) where
       (λ none. absurd (none .0 .none-mends (record { mended = m; mends = q })))
       mended-case
 
-  pub lost : BeyondMending h → mendedOf h ≡ unmended beyondMending
-  lost beyond = ⊎-elim (λ w. absurd (beyond .none-mends (record { mended = w .0; mends = w .1 .0 }))) (λ none. none .1) mended-case
+  pub none-found : BeyondMending h → mendedOf h ≡ unmended beyondMending
+  none-found beyond = ⊎-elim (λ w. absurd (beyond .none-mends (record { mended = w .0; mends = w .1 .0 }))) (λ none. none .1) mended-case
 
   -- what the answer says of the header
   mendable : mendedOf h .refusal ≡ 0 ↔ Mendable h
@@ -110,8 +110,8 @@ module _ (h : List ℕ) (six : SixBytes h) where
       mended-case
 
 -- "A correct header with just one byte changed always comes back as it was"
-comes-back : (correct h : List ℕ) → SixBytes h → OneByteChanged correct h → mendedOf h ≡ mendedTo correct
-comes-back correct h six w =
+changed-back : (correct h : List ℕ) → SixBytes h → OneByteChanged correct h → mendedOf h ≡ mendedTo correct
+changed-back correct h six w =
     found h six correct
     (record {
       six-bytes = multiple-six correct (w .is-correct);
@@ -139,7 +139,7 @@ module _ (format : ℕ) (image : List ℕ) (lsn : ℕ) (bytes : (i : ℕ) → ge
     pub mendable-iff : answer .refusal ≡ 0 ↔ HeaderIn Mendable format image lsn
     pub header-mends : answer .refusal ≡ 0 → Mends (headerAt image lsn) (answer .header)
     pub beyond-iff : answer .refusal ≡ beyondMending ↔ HeaderIn BeyondMending format image lsn
-    pub changed-back : (correct : List ℕ) → HeaderIn (OneByteChanged correct) format image lsn → answer ≡ mendedTo correct
+    pub comes-back : (correct : List ℕ) → HeaderIn (OneByteChanged correct) format image lsn → answer ≡ mendedTo correct
 
   module _ (k : ℕ) (not-1 : foreignFormat ≢ k) (not-11 : noHeader ≢ k) (not-8 : noSuchEntry ≢ k) where
     refusal-there : mendOf format image lsn .refusal ≡ k → There format image lsn
@@ -159,7 +159,7 @@ module _ (format : ℕ) (image : List ℕ) (lsn : ℕ) (bytes : (i : ℕ) → ge
         let t = refusal-there 0 (omega arith) (omega arith) (omega arith) e in
         rw (said t) (returned-mends header (header-is-six t) (rw (said t) at e));
     beyond-iff = refusal-iff beyondMending (omega arith) (omega arith) (omega arith) BeyondMending beyond;
-    changed-back = λ correct s.
+    comes-back = λ correct s.
         let t : There format image lsn = (s .has-header, s .is-there) in
-        said t ∙ comes-back correct header (header-is-six t) (s .its-header);
+        said t ∙ changed-back correct header (header-is-six t) (s .its-header);
   }

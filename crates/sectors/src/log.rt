@@ -279,7 +279,7 @@ fn log_of(table: &[u8; NONZERO_COUNT], x: u8) -> u8
     table[x as usize - 1]
 }
 
-// The exponent of the least power of α that takes one value to another, the difference of their logarithms; 255 if none does.
+// The least n for which α to the n takes one value to another, the difference of their logarithms modulo 255; 255 if there is none.
 pub(crate) fn least_exponent(from: u8, to: u8) -> usize
     ensures { λ r. ⌜ LeastExponent from to r ⌝ }
 {

@@ -44,7 +44,7 @@ fn six(h: &[u8]) -> [u8; HEADER_SIZE]
     [h[0], h[1], h[2], h[3], h[4], h[5]]
 }
 
-// Six bytes with the one at a place changed by a sum.
+// Six bytes with a change added at a place.
 fn changed(h: [u8; HEADER_SIZE], place: usize, change: u8) -> [u8; HEADER_SIZE]
     requires { ⌜ place < 6 ⌝ }
     ensures { λ r. ⌜ r ≡ set h place (getD h place 0 ⊕ change) ⌝ }
@@ -65,6 +65,7 @@ fn mend_bytes(h: &[u8]) -> Mended
         return unmended(BEYOND_MENDING);
     }
     let bytes = six(h);
+    // As it is: a byte stored at a computed place would cost more.
     if change == 0 {
         return Mended {
             refusal: 0,
@@ -75,7 +76,7 @@ fn mend_bytes(h: &[u8]) -> Mended
     Mended { refusal: 0, header }
 }
 
-// Mends the header of a sector, which is not written.
+// The header that a sector's mends to. The image is not written.
 pub fn mend(format: u32, image: &[u8], lsn: Lsn) -> Mended
     ensures answer { λ r. ⌜ r ≡ mendOf format (now (image .entry)) (lsn .0) ⌝ }
     ensures mendable { λ r. ⌜ (r .refusal ≡ 0) ↔ HeaderIn Mendable format (now (image .entry)) (lsn .0) ⌝ }

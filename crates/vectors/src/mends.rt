@@ -52,7 +52,7 @@ fn two_bad_bytes() {
     header_line(0x00, 0x00, 0x00, 0x00, 0x03, 0x02);
 }
 
-// A header beyond mending, asked for in each format, there and not there.
+// A header beyond mending, asked for in formats 3 and 1 behind the end, in format 0, and in format 2 behind the end.
 fn refusals() {
     let image = raw_sector(0x00, 0x00, 0x00, 0x01, 0x02, 0x03);
     mend_line(3, &image, 1);

@@ -46,7 +46,7 @@ impl Mending {
         }
     }
 
-    /// At least so many headers, and every order of faults.
+    /// At least so many headers, and every combination of faults.
     pub fn cases(&mut self, seed: u64, least: u64) {
         let rng = &mut Rng::new(seed);
         let mut named = [([0; 6], IN_ZEROS), (DOCUMENT, IN_DOCUMENT)].into_iter();

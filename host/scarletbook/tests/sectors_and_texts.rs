@@ -82,7 +82,7 @@ fn six_zeros_alone_are_blank_whatever_the_data_are() {
     }
 }
 
-/// The 6 x 256 headers that differ from the given one in at most one byte, itself among them.
+/// The headers that differ from the given one in at most one byte, it itself six times.
 fn near(header: [u8; 6]) -> impl Iterator<Item = [u8; 6]> {
     (0..6 * 256).map(move |at: usize| {
         let mut near = header;

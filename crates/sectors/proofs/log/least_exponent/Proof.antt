@@ -1,5 +1,5 @@
--- `sectors::log::least_exponent` meets its contract: no power of α takes 0 to another value or another value to 0, and between nonzero ones the difference of the
--- logarithms does. Assumes nothing.
+-- `sectors::log::least_exponent` meets its contract: no power of α takes 0 to another value or another value to 0, and between nonzero ones that of
+-- the difference of the logarithms does. Assumes nothing.
 use mathlib.Core.Path.{_∙_}
 use native.Mathlib.Omega.{arith}
 use borrow.Author.Needs.{needs}
