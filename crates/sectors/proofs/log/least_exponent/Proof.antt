@@ -16,9 +16,6 @@ returns-2 c = rw (c .if2 .taken) (from-zero _ (λ e. c .before .if1 .left (c .if
 returns-3 : tie.Need-returns-3
 returns-3 c = rw (c .if3 .taken) (to-zero _ (omega arith) (c .before .if2 .left))
 
-logs-requires : tie.Need-logs-requires
-logs-requires c κs = search needs
-
 log-of-requires : tie.Need-log-of-requires
 log-of-requires c κs = search needs
 
@@ -38,7 +35,7 @@ sub-result : tie.Need-sub-result
 sub-result c = search needs
 
 returns-4 : tie.Need-returns-4
-returns-4 c = rw (c .before .before .log-of .ensures, c .log-of2 .ensures) (difference _ (omega arith) (omega arith) _ (omega arith) (omega arith))
+returns-4 c = rw (c .before .log-of .ensures, c .log-of2 .ensures) (difference _ (omega arith) (omega arith) _ (omega arith) (omega arith))
 
 pub least-exponent-spec : {M : Type 1} → statement M
 least-exponent-spec =
@@ -47,7 +44,6 @@ least-exponent-spec =
     returns
     returns-2
     returns-3
-    logs-requires
     log-of-requires
     cast-a
     log-of-requires-2
