@@ -2,12 +2,11 @@
 ghost use mathlib.Core.Path.{_≡_};
 ghost use mathlib.Core.List.{List};
 ghost use mathlib.Core.Logic.{_↔_};
-ghost use Prim.Native.Nat.{ℕ, _<_};
-ghost use lib.ListN.{length, getD, set};
+ghost use Prim.Native.Nat.{ℕ};
+ghost use lib.ListN.{length};
 ghost use Rattle.sectors.specs.Refusal.{beyondMending};
-ghost use Rattle.sectors.specs.Field.{_⊕_};
 ghost use Rattle.sectors.specs.Audit.{HeaderIn, headerAt};
-ghost use Rattle.sectors.specs.Mend.{Mends, Mendable, BeyondMending, OneByteChanged, mendedTo, unmended, mendedOf, mendOf};
+ghost use Rattle.sectors.specs.Mend.{Mends, Mendable, BeyondMending, OneByteChanged, mendedTo, mendedOf, mendOf};
 use crate::header::HEADER_FORMAT;
 use crate::header::HEADER_SIZE;
 use crate::header::at_alpha;
@@ -22,36 +21,14 @@ use crate::sector::contains;
 use crate::sector::is_foreign;
 use crate::sector::stored_part;
 
+// What stands beside a refusal.
+const SIX_ZEROS: [u8; HEADER_SIZE] = [0; HEADER_SIZE];
+
 // The header that a sector's mends to, or a refusal and zeros.
 #[repr(C)]
 pub struct Mended {
     pub refusal: u8,
     pub header: [u8; HEADER_SIZE],
-}
-
-fn unmended(refusal: u8) -> Mended
-    ensures { λ r. ⌜ r ≡ unmended refusal ⌝ }
-{
-    let header = [0u8; HEADER_SIZE];
-    Mended { refusal, header }
-}
-
-// Six bytes by value.
-fn six(h: &[u8]) -> [u8; HEADER_SIZE]
-    requires { ⌜ length (now h) ≡ 6 ⌝ }
-    ensures { λ r. ⌜ r ≡ now (h .entry) ⌝ }
-{
-    [h[0], h[1], h[2], h[3], h[4], h[5]]
-}
-
-// Six bytes with a change added at a place.
-fn changed(h: [u8; HEADER_SIZE], place: usize, change: u8) -> [u8; HEADER_SIZE]
-    requires { ⌜ place < 6 ⌝ }
-    ensures { λ r. ⌜ r ≡ set h place (getD h place 0 ⊕ change) ⌝ }
-{
-    let mut m = h;
-    m[place] = m[place] ^ change;
-    m
 }
 
 // Mends six bytes. If one is bad, their value at 1 is its change, and their value at α that change times α to the number of bytes behind it.
@@ -62,17 +39,18 @@ fn mend_bytes(h: &[u8]) -> Mended
     let change = at_one(h);
     let behind = least_exponent(change, at_alpha(h));
     if HEADER_SIZE <= behind {
-        return unmended(BEYOND_MENDING);
-    }
-    let bytes = six(h);
-    // As it is: a byte stored at a computed place would cost more.
-    if change == 0 {
         return Mended {
-            refusal: 0,
-            header: bytes,
+            refusal: BEYOND_MENDING,
+            header: SIX_ZEROS,
         };
     }
-    let header = changed(bytes, HEADER_SIZE - 1 - behind, change);
+    let mut header = [h[0], h[1], h[2], h[3], h[4], h[5]];
+    // As it is: a byte stored at a computed place would cost more.
+    if change == 0 {
+        return Mended { refusal: 0, header };
+    }
+    let place = HEADER_SIZE - 1 - behind;
+    header[place] = header[place] ^ change;
     Mended { refusal: 0, header }
 }
 
@@ -85,13 +63,22 @@ pub fn mend(format: u32, image: &[u8], lsn: Lsn) -> Mended
     ensures comes_back { λ r. ⌜ ((g : List ℕ) → HeaderIn (OneByteChanged g) format (now (image .entry)) (lsn .0) → r ≡ mendedTo g) ⌝ }
 {
     if is_foreign(format) {
-        return unmended(FOREIGN_FORMAT);
+        return Mended {
+            refusal: FOREIGN_FORMAT,
+            header: SIX_ZEROS,
+        };
     }
     if format != HEADER_FORMAT {
-        return unmended(NO_HEADER);
+        return Mended {
+            refusal: NO_HEADER,
+            header: SIX_ZEROS,
+        };
     }
     if !contains(format, image.len(), lsn, 1) {
-        return unmended(NO_SUCH_ENTRY);
+        return Mended {
+            refusal: NO_SUCH_ENTRY,
+            header: SIX_ZEROS,
+        };
     }
     mend_bytes(stored_part(format, image, lsn.0 as usize, 0, HEADER_SIZE))
 }

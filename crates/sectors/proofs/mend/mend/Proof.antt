@@ -2,7 +2,7 @@
 use mathlib.Core.Path.{_∙_}
 use denote.Ref.{now}
 use borrow.Author.Needs.{needs}
-use Rattle.sectors.specs.Mend.{mendOf}
+use Rattle.sectors.specs.Mend.{unmended, mendOf}
 use Rattle.sectors.proofs.HeaderCases.{foreign-answer, no-header-answer, missing-answer, header-there, six-long, header-answer}
 use Rattle.sectors.proofs.Mending.{right}
 use Rattle.sectors.proofs.mend.mend.Statement.{statement}
@@ -11,37 +11,26 @@ use Rattle.sectors.proofs.mend.mend.Tie as tie
 is-foreign-requires : tie.Need-is-foreign-requires
 is-foreign-requires c κs = search needs
 
-unmended-requires : tie.Need-unmended-requires
-unmended-requires c κs = search needs
-
 returns : tie.Need-returns
-unfolding mendOf
-returns c =
-    let known = c .before .before in
-    right _ _ _ (known .before .shared-slice-known .given) _ (c .unmended .ensures ∙ foreign-answer _ _ _ _ _ (known .is-foreign .ensures) (c .before .if1 .taken))
-
-unmended-requires-2 : tie.Need-unmended-requires-2
-unmended-requires-2 c κs = search needs
+unfolding unmended mendOf
+returns c = right _ _ _ (c .before .before .shared-slice-known .given) _ (foreign-answer unmended _ _ _ _ (c .before .is-foreign .ensures) (c .if1 .taken))
 
 returns-2 : tie.Need-returns-2
-unfolding mendOf
+unfolding unmended mendOf
 returns-2 c =
-    let known = c .before .before .before in
+    let known = c .before .before in
     right _ _ _ (known .before .shared-slice-known .given) _
-    (c .unmended2 .ensures ∙ no-header-answer _ _ _ _ _ (known .is-foreign .ensures) (c .before .before .if1 .left) (c .before .if2 .taken))
+    (no-header-answer unmended _ _ _ _ (known .is-foreign .ensures) (c .before .if1 .left) (c .if2 .taken))
 
 contains-requires : tie.Need-contains-requires
 contains-requires c κs = search needs
 
-unmended-requires-3 : tie.Need-unmended-requires-3
-unmended-requires-3 c κs = search needs
-
 returns-3 : tie.Need-returns-3
-unfolding mendOf
+unfolding unmended mendOf
 returns-3 c =
-    let there = c .before .before in let two = there .before in
+    let two = c .before .before in
     right _ _ _ (two .before .before .before .shared-slice-known .given) _
-    (c .unmended3 .ensures ∙ missing-answer _ _ _ _ _ (two .if2 .left) (there .contains .ensures) (c .before .if3 .taken))
+    (missing-answer unmended _ _ _ _ (two .if2 .left) (c .before .contains .ensures) (c .if3 .taken))
 
 cast-stored-part : tie.Need-cast-stored-part
 cast-stored-part c = search needs
@@ -69,12 +58,9 @@ mend-spec =
     tie.close
     (tie.spec
     is-foreign-requires
-    unmended-requires
     returns
-    unmended-requires-2
     returns-2
     contains-requires
-    unmended-requires-3
     returns-3
     cast-stored-part
     stored-part-requires

@@ -1,8 +1,13 @@
--- `sectors::mend::mend_bytes` meets its contract: by the exponent that is found a header mends, or none does. Assumes nothing.
-use mathlib.Core.Path.{ap, _∙_}
+-- `sectors::mend::mend_bytes` meets its contract: by the exponent that is found a header mends, or none does; a list of six is its six places.
+-- Assumes nothing.
+use mathlib.Core.Path.{sym, ap, _∙_}
+use mathlib.Core.List.{List}
+use Prim.Native.Nat.{ℕ}
 use native.Mathlib.Omega.{arith}
 use borrow.Author.Needs.{needs}
-use Rattle.sectors.specs.Mend.{mendedTo}
+use Rattle.sectors.specs.Field.{_⊕_}
+use Rattle.sectors.specs.Mend.{mendedTo, unmended}
+use Rattle.sectors.specs.TableLaws.{values, places}
 use Rattle.sectors.proofs.HeaderCases.{known-six}
 use Rattle.sectors.proofs.Mending.{changedAt, beyond-answer, changed-answer, unchanged-answer}
 use Rattle.sectors.proofs.mend.mend_bytes.Statement.{statement}
@@ -17,47 +22,63 @@ at-alpha-requires c κs = search needs
 least-exponent-requires : tie.Need-least-exponent-requires
 least-exponent-requires c κs = search needs
 
-unmended-requires : tie.Need-unmended-requires
-unmended-requires c κs = search needs
-
 returns : tie.Need-returns
+unfolding unmended
 returns c =
-    let exponent = c .before .before in let alpha = exponent .before in
+    let exponent = c .before in let alpha = exponent .before in
     let one = alpha .before in let known = one .before in
     let six = known-six _ (known .before .pre) (known .shared-slice-known .given) in
-    c .unmended .ensures
-    ∙ beyond-answer _ six (one .at-one .ensures) (alpha .at-alpha .ensures) (exponent .least-exponent .ensures) (c .before .if1 .taken)
+    beyond-answer _ six (one .at-one .ensures) (alpha .at-alpha .ensures) (exponent .least-exponent .ensures) (c .if1 .taken)
 
-six-requires : tie.Need-six-requires
-six-requires c κs = search needs
+shared-slice-read-header : tie.Need-shared-slice-read-header
+shared-slice-read-header c = search needs
+
+shared-slice-read-t11 : tie.Need-shared-slice-read-t11
+shared-slice-read-t11 c = search needs
+
+shared-slice-read-t13 : tie.Need-shared-slice-read-t13
+shared-slice-read-t13 c = search needs
+
+shared-slice-read-t15 : tie.Need-shared-slice-read-t15
+shared-slice-read-t15 c = search needs
+
+shared-slice-read-t17 : tie.Need-shared-slice-read-t17
+shared-slice-read-t17 c = search needs
+
+shared-slice-read-header-2 : tie.Need-shared-slice-read-header-2
+shared-slice-read-header-2 c = search needs
 
 returns-2 : tie.Need-returns-2
-unfolding mendedTo
+unfolding mendedTo values
 returns-2 c =
-    let exponent = c .before .before .before in let alpha = exponent .before in
+    let near = c .before .before .before .before .before .before .before in
+    let exponent = near .before in let alpha = exponent .before in
     let one = alpha .before in let known = one .before in
     let six = known-six _ (known .before .pre) (known .shared-slice-known .given) in
-    ap mendedTo (c .before .six .ensures)
-    ∙ unchanged-answer _ six (one .at-one .ensures) (alpha .at-alpha .ensures) (exponent .least-exponent .ensures) (c .before .before .if1 .left) (c .if2 .taken)
+    ap mendedTo (sym (places (known .before .args .h .now) 6 (known .before .pre)))
+    ∙ unchanged-answer _ six (one .at-one .ensures) (alpha .at-alpha .ensures) (exponent .least-exponent .ensures) (near .if1 .left) (c .if2 .taken)
 
-sub-changed : tie.Need-sub-changed
-sub-changed c = search needs
+sub-place : tie.Need-sub-place
+sub-place c = search needs
 
-sub-changed-2 : tie.Need-sub-changed-2
-sub-changed-2 c = search needs
+sub-place-2 : tie.Need-sub-place-2
+sub-place-2 c = search needs
 
-changed-requires : tie.Need-changed-requires
-changed-requires c κs = search needs
+array-read-header : tie.Need-array-read-header
+array-read-header c = search needs
+
+array-write-header : tie.Need-array-write-header
+array-write-header c = search needs
 
 returns-3 : tie.Need-returns-3
-unfolding mendedTo
+unfolding mendedTo values _⊕_
 returns-3 c =
-    let by-value = c .before .before in let exponent = by-value .before .before in
-    let alpha = exponent .before in let one = alpha .before in
-    let known = one .before in
+    let near = c .before .before .before .before .before .before .before in
+    let exponent = near .before in let alpha = exponent .before in
+    let one = alpha .before in let known = one .before in
     let six = known-six _ (known .before .pre) (known .shared-slice-known .given) in
-    ap mendedTo (c .changed .ensures ∙ ap (changedAt (exponent .least-exponent .result) (one .at-one .result)) (by-value .six .ensures))
-    ∙ changed-answer _ six (one .at-one .ensures) (alpha .at-alpha .ensures) (exponent .least-exponent .ensures) (by-value .before .if1 .left) (omega arith)
+    ap (λ (h : List ℕ). mendedTo (changedAt (exponent .least-exponent .result) (one .at-one .result) h)) (sym (places (known .before .args .h .now) 6 (known .before .pre)))
+    ∙ changed-answer _ six (one .at-one .ensures) (alpha .at-alpha .ensures) (exponent .least-exponent .ensures) (near .if1 .left) (omega arith)
 
 pub mend-bytes-spec : {M : Type 1} → statement M
 mend-bytes-spec =
@@ -66,11 +87,16 @@ mend-bytes-spec =
     at-one-requires
     at-alpha-requires
     least-exponent-requires
-    unmended-requires
     returns
-    six-requires
+    shared-slice-read-header
+    shared-slice-read-t11
+    shared-slice-read-t13
+    shared-slice-read-t15
+    shared-slice-read-t17
+    shared-slice-read-header-2
     returns-2
-    sub-changed
-    sub-changed-2
-    changed-requires
+    sub-place
+    sub-place-2
+    array-read-header
+    array-write-header
     returns-3)
