@@ -113,18 +113,28 @@ module _ (a : ℕ) (a-nonzero : 0 < a) (a-byte : a < 256) where
   difference b b-nonzero b-byte =
       let a-log = log-lt a a-nonzero a-byte in
       let b-log = log-lt b b-nonzero b-byte in
+      let n = (log b + nonzeroCount - log a) % nonzeroCount in
       record {
-        takes = λ h.
-            as-power ((log b + nonzeroCount - log a) % nonzeroCount) ∙ ap (λ (k : ℕ). timesPower k 1) (omega (arith, a-log, b-log)) ∙ power-log b b-nonzero b-byte;
+        takes = λ h. as-power n ∙ ap (λ (k : ℕ). timesPower k 1) (omega (arith, a-log, b-log)) ∙ power-log b b-nonzero b-byte;
         is-least = λ k e. omega (arith, a-log, b-log, sym (ap log e) ∙ log-times k);
       }
 
-pub same-exponent : (a : ℕ) → LeastExponent a a 0
-unfolding timesPower repeated
-same-exponent a = record { takes = λ h. refl; is-least = λ k e. omega arith }
+-- as the program comes to it
+module _ (a b : ℕ) where
+  pub same-exponent : a ≡ b → LeastExponent a b 0
+  unfolding timesPower repeated
+  same-exponent e = record { takes = λ h. e; is-least = λ k f. omega arith }
 
-pub from-zero : (b : ℕ) → 0 ≢ b → LeastExponent 0 b nonzeroCount
-from-zero b other = record { takes = λ h. absurd (omega arith); is-least = λ k e. absurd (other (sym (power-zero k) ∙ e)) }
+  module _ (other : a ≢ b) where
+    pub from-zero : a ≡ 0 → LeastExponent a b nonzeroCount
+    from-zero zero-a = record {
+      takes = λ h. absurd (omega arith);
+      is-least = λ k e. absurd (other (zero-a ∙ sym (power-zero k) ∙ ap (timesPower k) (sym zero-a) ∙ e));
+    }
 
-pub to-zero : (a : ℕ) → a < 256 → a ≢ 0 → LeastExponent a 0 nonzeroCount
-to-zero a byte other = record { takes = λ h. absurd (omega arith); is-least = λ k e. absurd (other (power-only-zero k a byte e)) }
+    pub to-zero : a < 256 → a ≢ 0 → b ≡ 0 → LeastExponent a b nonzeroCount
+    to-zero byte some zero-b = record { takes = λ h. absurd (omega arith); is-least = λ k e. absurd (some (power-only-zero k a byte (e ∙ zero-b))) }
+
+  pub by-logs : a < 256 → b < 256 → a ≢ 0 → b ≢ 0 → {x y : ℕ} → x ≡ log a → y ≡ log b
+      → LeastExponent a b ((y + nonzeroCount - x) % nonzeroCount)
+  by-logs a-byte b-byte some-a some-b e f = rw (e, f) (difference a (omega arith) a-byte b (omega arith) b-byte)
