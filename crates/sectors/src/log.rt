@@ -1,7 +1,7 @@
 // Logarithms in the field, to the base α.
 ghost use mathlib.Core.Path.{_≡_};
 ghost use Prim.Native.Nat.{_<_};
-ghost use Rattle.sectors.specs.Log.{LeastExponent, log};
+ghost use Rattle.sectors.specs.Log.{LeastExponent, log, logs};
 
 // How many values of the field are not zero: α has as many powers.
 const NONZERO_COUNT: usize = 255;
@@ -265,12 +265,18 @@ const LOGS: [u8; NONZERO_COUNT] = [
     175,
 ];
 
-// The logarithm of a nonzero value.
-fn log_of(x: u8) -> u8
-    requires { ⌜ 0 < x ⌝ }
+fn logs() -> [u8; NONZERO_COUNT]
+    ensures { λ r. ⌜ r ≡ logs ⌝ }
+{
+    LOGS
+}
+
+// The logarithm of a nonzero value, by the table.
+fn log_of(table: &[u8; NONZERO_COUNT], x: u8) -> u8
+    requires { ⌜ (now table ≡ logs) × (0 < x) ⌝ }
     ensures { λ r. ⌜ r ≡ log x ⌝ }
 {
-    LOGS[x as usize - 1]
+    table[x as usize - 1]
 }
 
 // The least n for which α to the n takes one value to another, the difference of their logarithms modulo 255; 255 if there is none.
@@ -286,7 +292,8 @@ pub(crate) fn least_exponent(from: u8, to: u8) -> usize
     if to == 0 {
         return NONZERO_COUNT;
     }
-    let a = log_of(from) as usize;
-    let b = log_of(to) as usize;
+    let table = logs();
+    let a = log_of(&table, from) as usize;
+    let b = log_of(&table, to) as usize;
     (b + NONZERO_COUNT - a) % NONZERO_COUNT
 }

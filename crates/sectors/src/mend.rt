@@ -44,11 +44,15 @@ fn mend_bytes(h: &[u8]) -> Mended
             header: SIX_ZEROS,
         };
     }
-    let mut header = [h[0], h[1], h[2], h[3], h[4], h[5]];
+    let bytes = [h[0], h[1], h[2], h[3], h[4], h[5]];
     // As it is: a byte stored at a computed place would cost more.
     if change == 0 {
-        return Mended { refusal: 0, header };
+        return Mended {
+            refusal: 0,
+            header: bytes,
+        };
     }
+    let mut header = bytes;
     let place = HEADER_SIZE - 1 - behind;
     header[place] = header[place] ^ change;
     Mended { refusal: 0, header }

@@ -25,6 +25,9 @@ returns-3 c =
     let start = c .before .before .before in let a = start .args in
     to-zero (a .from) (a .to) (c .before .before .if1 .left) (byte (a .from) (start .fits .from)) (c .before .if2 .left) (c .if3 .taken)
 
+logs-requires : tie.Need-logs-requires
+logs-requires c κs = search needs
+
 log-of-requires : tie.Need-log-of-requires
 log-of-requires c κs = search needs
 
@@ -45,9 +48,11 @@ sub-result c = search needs
 
 returns-4 : tie.Need-returns-4
 returns-4 c =
-    let some-to = c .before .before in let start = some-to .before .before .before in let a = start .args in
+    let from-log = c .before .before in
+    let some-to = from-log .before .before .before in let start = some-to .before .before .before in
+    let a = start .args in
     by-logs (a .from) (a .to) (byte (a .from) (start .fits .from)) (byte (a .to) (start .fits .to)) (some-to .before .if2 .left) (some-to .if3 .left)
-    (c .before .log-of .ensures) (c .log-of2 .ensures)
+    (from-log .log-of .ensures) (c .log-of2 .ensures)
 
 pub least-exponent-spec : {M : Type 1} → statement M
 least-exponent-spec =
@@ -56,6 +61,7 @@ least-exponent-spec =
     returns
     returns-2
     returns-3
+    logs-requires
     log-of-requires
     cast-a
     log-of-requires-2
