@@ -109,7 +109,7 @@ module _ (a : ℕ) (a-nonzero : 0 < a) (a-byte : a < 256) where
   log-times n = ap log (as-power n) ∙ log-power ((log a + n) % nonzeroCount) (mod-lt (log a + n) (omega arith))
 
   -- the difference of the logarithms modulo 255
-  pub difference : (b : ℕ) → 0 < b → b < 256 → LeastExponent a b ((log b + nonzeroCount - log a) % nonzeroCount)
+  difference : (b : ℕ) → 0 < b → b < 256 → LeastExponent a b ((log b + nonzeroCount - log a) % nonzeroCount)
   difference b b-nonzero b-byte =
       let a-log = log-lt a a-nonzero a-byte in
       let b-log = log-lt b b-nonzero b-byte in

@@ -1,9 +1,8 @@
 // The header of a sector of a format 2 image: six bytes, blank when they are zeros, sound when they are another multiple of (x + 1)(x + α).
 ghost use mathlib.Core.Path.{_≡_};
-ghost use mathlib.Core.Bool.{true};
 ghost use mathlib.Core.Logic.{_↔_};
 ghost use lib.ListN.{length};
-ghost use Rattle.sectors.specs.Header.{Multiple, Sound, Blank, Unsound, atOne, atAlpha, isMultiple, isBlank};
+ghost use Rattle.sectors.specs.Header.{Sound, Blank, Unsound, atOne, atAlpha, isMultiple, isBlank};
 ghost use Rattle.sectors.specs.Audit.{HeaderIn, answerOf, auditOf};
 use crate::bytes::same_bytes;
 use crate::field::times_alpha;
@@ -74,8 +73,7 @@ pub(crate) fn at_alpha(h: &[u8]) -> u8
 // Whether six bytes are a multiple of (x + 1)(x + α): they are zero at 1 and at α.
 fn is_multiple(h: &[u8]) -> bool
     requires { ⌜ length (now h) ≡ 6 ⌝ }
-    ensures test { λ r. ⌜ r ≡ isMultiple (now (h .entry)) ⌝ }
-    ensures decides { λ r. ⌜ (r ≡ true) ↔ Multiple (now (h .entry)) ⌝ }
+    ensures { λ r. ⌜ r ≡ isMultiple (now (h .entry)) ⌝ }
 {
     (at_one(h) == 0) & (at_alpha(h) == 0)
 }

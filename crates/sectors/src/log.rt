@@ -1,7 +1,6 @@
 // Logarithms in the field, to the base α.
 ghost use mathlib.Core.Path.{_≡_};
-ghost use Prim.Native.Nat.{_<_};
-ghost use Rattle.sectors.specs.Log.{LeastExponent, log, logs};
+ghost use Rattle.sectors.specs.Log.{LeastExponent, logs};
 
 // How many values of the field are not zero: α has as many powers.
 const NONZERO_COUNT: usize = 255;
@@ -271,14 +270,6 @@ fn logs() -> [u8; NONZERO_COUNT]
     LOGS
 }
 
-// The logarithm of a nonzero value, by the table.
-fn log_of(table: &[u8; NONZERO_COUNT], x: u8) -> u8
-    requires { ⌜ (now table ≡ logs) × (0 < x) ⌝ }
-    ensures { λ r. ⌜ r ≡ log x ⌝ }
-{
-    table[x as usize - 1]
-}
-
 // The least n for which α to the n takes one value to another, the difference of their logarithms modulo 255; 255 if there is none.
 pub(crate) fn least_exponent(from: u8, to: u8) -> usize
     ensures { λ r. ⌜ LeastExponent from to r ⌝ }
@@ -293,7 +284,7 @@ pub(crate) fn least_exponent(from: u8, to: u8) -> usize
         return NONZERO_COUNT;
     }
     let table = logs();
-    let a = log_of(&table, from) as usize;
-    let b = log_of(&table, to) as usize;
+    let a = table[from as usize - 1] as usize;
+    let b = table[to as usize - 1] as usize;
     (b + NONZERO_COUNT - a) % NONZERO_COUNT
 }

@@ -60,14 +60,14 @@ returns-5 c =
     let blank = c .before .before in let part = blank .before .before in
     let there = part .before .before in let two = there .before .before in
     right _ _ _ (two .before .before .before .shared-slice-known .given) _
-    (sound-answer _ _ _ (two .if2 .left) (there .before .contains .ensures) (there .if3 .left) (part .stored-part .ensures .0) (blank .before .is-blank .ensures) (blank .if4 .left) (c .before .is-multiple .ensures .0) (c .if5 .taken))
+    (sound-answer _ _ _ (two .if2 .left) (there .before .contains .ensures) (there .if3 .left) (part .stored-part .ensures .0) (blank .before .is-blank .ensures) (blank .if4 .left) (c .before .is-multiple .ensures) (c .if5 .taken))
 
 returns-6 : tie.Need-returns-6
 returns-6 c =
     let blank = c .before .before in let part = blank .before .before in
     let there = part .before .before in let two = there .before .before in
     right _ _ _ (two .before .before .before .shared-slice-known .given) _
-    (unsound-answer _ _ _ (two .if2 .left) (there .before .contains .ensures) (there .if3 .left) (part .stored-part .ensures .0) (blank .before .is-blank .ensures) (blank .if4 .left) (c .before .is-multiple .ensures .0) (c .if5 .left))
+    (unsound-answer _ _ _ (two .if2 .left) (there .before .contains .ensures) (there .if3 .left) (part .stored-part .ensures .0) (blank .before .is-blank .ensures) (blank .if4 .left) (c .before .is-multiple .ensures) (c .if5 .left))
 
 pub audit-spec : {M : Type 1} → statement M
 audit-spec =

@@ -1,16 +1,29 @@
 -- `sectors::log::least_exponent` meets its contract: no power of α takes 0 to another value or another value to 0, and between nonzero ones that of
 -- the difference of the logarithms does. Assumes nothing.
-use Prim.Native.Nat.{ℕ, _<_}
+use mathlib.Core.Path.{_≡_, ap}
+use mathlib.Core.List.{List}
+use mathlib.Core.Logic.{_≢_}
+use Prim.Native.Nat.{ℕ, _-_, _<_}
 use native.Mathlib.Omega.{arith}
+use lib.ListN.{getD}
 use borrow.Author.Needs.{needs}
 use mir.Syntax.{w8}
 use mir.Val.{Fits}
-use Rattle.sectors.specs.LogLaws.{same-exponent, from-zero, to-zero, by-logs}
+use Rattle.sectors.specs.Log.{logs, log}
+use Rattle.sectors.specs.LogLaws.{log-lt, same-exponent, from-zero, to-zero, by-logs}
 use Rattle.sectors.proofs.log.least_exponent.Statement.{statement}
 use Rattle.sectors.proofs.log.least_exponent.Tie as tie
 
 byte : (a : ℕ) → Fits w8 a → a < 256
 byte a fits = omega arith
+
+module _ {table : List ℕ} (is-logs : table ≡ logs) (x : ℕ) where
+  entry : getD table (x - 1) 0 ≡ log x
+  unfolding log
+  entry = ap (λ (t : List ℕ). getD t (x - 1) 0) is-logs
+
+  entry-lt : x ≢ 0 → Fits w8 x → getD table (x - 1) 0 < 255
+  entry-lt some fits = rw entry (log-lt x (omega arith) (byte x fits))
 
 returns : tie.Need-returns
 returns c = same-exponent (c .before .args .from) (c .before .args .to) (c .if1 .taken)
@@ -28,31 +41,39 @@ returns-3 c =
 logs-requires : tie.Need-logs-requires
 logs-requires c κs = search needs
 
-log-of-requires : tie.Need-log-of-requires
-log-of-requires c κs = search needs
+sub-a : tie.Need-sub-a
+sub-a c = search needs
+
+array-read-a : tie.Need-array-read-a
+array-read-a c = search needs
 
 cast-a : tie.Need-cast-a
 cast-a c = search needs
 
-log-of-requires-2 : tie.Need-log-of-requires-2
-log-of-requires-2 c κs = search needs
+sub-b : tie.Need-sub-b
+sub-b c = search needs
+
+array-read-b : tie.Need-array-read-b
+array-read-b c = search needs
 
 cast-b : tie.Need-cast-b
 cast-b c = search needs
 
 add-result : tie.Need-add-result
-add-result c = search needs
+add-result c =
+    let start = c .before .before .before .before in
+    omega (arith, entry-lt (c .logs .ensures) (start .args .to) (c .before .if3 .left) (start .fits .to))
 
 sub-result : tie.Need-sub-result
-sub-result c = search needs
+sub-result c =
+    let start = c .before .before .before .before in
+    omega (arith, entry-lt (c .logs .ensures) (start .args .from) (c .before .before .if2 .left) (start .fits .from))
 
 returns-4 : tie.Need-returns-4
 returns-4 c =
-    let from-log = c .before .before in
-    let some-to = from-log .before .before .before in let start = some-to .before .before .before in
-    let a = start .args in
-    by-logs (a .from) (a .to) (byte (a .from) (start .fits .from)) (byte (a .to) (start .fits .to)) (some-to .before .if2 .left) (some-to .if3 .left)
-    (from-log .log-of .ensures) (c .log-of2 .ensures)
+    let start = c .before .before .before .before in let a = start .args in
+    by-logs (a .from) (a .to) (byte (a .from) (start .fits .from)) (byte (a .to) (start .fits .to)) (c .before .before .if2 .left) (c .before .if3 .left)
+    (entry (c .logs .ensures) (a .from)) (entry (c .logs .ensures) (a .to))
 
 pub least-exponent-spec : {M : Type 1} → statement M
 least-exponent-spec =
@@ -62,9 +83,11 @@ least-exponent-spec =
     returns-2
     returns-3
     logs-requires
-    log-of-requires
+    sub-a
+    array-read-a
     cast-a
-    log-of-requires-2
+    sub-b
+    array-read-b
     cast-b
     add-result
     sub-result
