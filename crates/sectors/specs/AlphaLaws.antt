@@ -1,4 +1,4 @@
--- The product of a byte with α: it is a byte, that of a sum is the sum of the products, only that of 0 is 0, and only 0 is its own product. What is said of
+-- The product of a byte with α: it is a byte, that of a sum is the sum of the products, and only 0 is its own product. What is said of
 -- one byte is tested at all 256; the sum follows from a form of the product, so tested, that is made of sums. Assumes nothing.
 use mathlib.Core.Path.{_≡_, refl, sym, ap, _∙_}
 use mathlib.Core.Bool.{Bool, cond}
@@ -18,18 +18,11 @@ pub alpha-lt : {a : ℕ} → a < 256 → timesAlpha a < 256
 unfolding values timesAlpha _⊕_
 alpha-lt {a} h = omega (arith, agree (λ a. timesAlpha a / 256) (λ a. 0) 256 refl a h)
 
--- what is zero of no byte but 0
-only-at-zero : (f : ℕ → ℕ) → values (λ a. cond (eqb (f a) 0) a 0) 0 256 ≡ values (λ a. 0) 0 256 → (a : ℕ) → a < 256 → f a ≡ 0 → a ≡ 0
-only-at-zero f tested a h e =
-    ap (λ (b : Bool). cond b a 0) (sym (eq-eqb (f a) 0 e)) ∙ agree (λ a. cond (eqb (f a) 0) a 0) (λ a. 0) 256 tested a h
-
-pub only-zero : (a : ℕ) → a < 256 → timesAlpha a ≡ 0 → a ≡ 0
-unfolding values timesAlpha _⊕_
-only-zero = only-at-zero timesAlpha refl
-
 pub only-zero-stays : (a : ℕ) → a < 256 → a ⊕ timesAlpha a ≡ 0 → a ≡ 0
 unfolding values timesAlpha _⊕_
-only-zero-stays = only-at-zero (λ a. a ⊕ timesAlpha a) refl
+only-zero-stays a h e =
+    ap (λ (b : Bool). cond b a 0) (sym (eq-eqb (a ⊕ timesAlpha a) 0 e))
+    ∙ agree (λ a. cond (eqb (a ⊕ timesAlpha a) 0) a 0) (λ a. 0) 256 refl a h
 
 -- the doubled byte's low eight bits, and x^4 + x^3 + x^2 + 1 where it has a ninth
 asSum : ℕ → ℕ

@@ -47,7 +47,7 @@ set-equal h m k long inside equal =
     (or-other i k))
 
 -- a byte changed by nothing
-pub unchanged : (h : List ℕ) (k : ℕ) {s : ℕ} → s ≡ 0 → set h k (getD h k 0 ⊕ s) ≡ h
+unchanged : (h : List ℕ) (k : ℕ) {s : ℕ} → s ≡ 0 → set h k (getD h k 0 ⊕ s) ≡ h
 unchanged h k none = ap (λ (n : ℕ). set h k (getD h k 0 ⊕ n)) none ∙ ap (set h k) (sum-zero (getD h k 0)) ∙ set-getD h k 0
 
 -- a multiple is six bytes

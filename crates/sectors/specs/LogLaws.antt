@@ -1,19 +1,19 @@
--- The powers of α and the logarithms. The rule of the table of logarithms is two tests that antt computes over the whole of it; that the powers come
--- round after 255 is a third. So the difference of two logarithms modulo 255 is the least n for which α to the n takes one value to the other.
+-- The powers of α and the logarithms. The rule of the table of logarithms is a test that antt computes over the whole of it; that the powers come
+-- round after 255 is another. So the difference of two logarithms modulo 255 is the least n for which α to the n takes one value to the other.
 -- Assumes nothing.
 use mathlib.Core.Path.{_≡_, refl, sym, ap, _∙_}
 use mathlib.Core.Bool.{Bool, true, false}
-use mathlib.Core.List.{List}
+use mathlib.Core.List.{List, map}
 use mathlib.Core.Logic.{_≢_}
-use Prim.Native.Nat.{ℕ, zero, suc, _+_, _*_, _/_, _-_, _%_, _<_}
+use Prim.Native.Nat.{ℕ, zero, suc, _+_, _*_, _/_, _-_, _%_, _<_, _≤_}
 use native.Mathlib.Nat.{zero-add, suc-add, suc-mul, mod-lt, div-add-mod'}
 use native.Mathlib.Omega.{arith}
 use lib.Dec.{ltb}
 use lib.ListN.{length, getD, List·getD-eq-default}
 use borrow.Author.Tests.{ltb-true, ltb-false}
 use Rattle.sectors.specs.Field.{timesAlpha, _⊕_}
-use Rattle.sectors.specs.TableLaws.{values, agree}
-use Rattle.sectors.specs.AlphaLaws.{alpha-zero, alpha-lt, only-zero}
+use Rattle.sectors.specs.TableLaws.{values, mapped}
+use Rattle.sectors.specs.AlphaLaws.{alpha-zero}
 use Rattle.sectors.specs.Log.{repeated, timesPower, powersFrom, powers, stored, logs, log, nonzeroCount, LeastExponent}
 
 -- ---- the powers of α
@@ -34,11 +34,6 @@ unfolding timesPower repeated
 power-zero zero = refl
 power-zero (suc n) = ap (timesPower n) alpha-zero ∙ power-zero n
 
-power-only-zero : (n a : ℕ) → a < 256 → timesPower n a ≡ 0 → a ≡ 0
-unfolding timesPower repeated
-power-only-zero zero a h e = e
-power-only-zero (suc n) a h e = only-zero a h (power-only-zero n (timesAlpha a) (alpha-lt h) e)
-
 power-add : (m n a : ℕ) → timesPower (m + n) a ≡ timesPower n (timesPower m a)
 unfolding timesPower repeated
 power-add zero n a = ap (λ (k : ℕ). timesPower k a) (zero-add n)
@@ -47,6 +42,11 @@ power-add (suc m) n a = ap (λ (k : ℕ). timesPower k a) (suc-add m n) ∙ powe
 comes-round : timesPower nonzeroCount 1 ≡ 1
 unfolding timesPower repeated timesAlpha _⊕_
 comes-round = refl
+
+never-zero : (n : ℕ) → n ≤ nonzeroCount → timesPower n 1 ≢ 0
+never-zero n h e =
+    let rest = nonzeroCount - n in
+    omega (arith, sym comes-round ∙ ap (λ (k : ℕ). timesPower k 1) (omega arith) ∙ power-add n rest 1 ∙ ap (timesPower rest) e ∙ power-zero rest)
 
 rounds : (q r : ℕ) → timesPower (q * nonzeroCount + r) 1 ≡ timesPower r 1
 rounds zero r = ap (λ (k : ℕ). timesPower k 1) (omega arith)
@@ -58,28 +58,22 @@ period : (n : ℕ) → timesPower n 1 ≡ timesPower (n % nonzeroCount) 1
 period n = ap (λ (k : ℕ). timesPower k 1) (sym (div-add-mod' n nonzeroCount)) ∙ rounds (n / nonzeroCount) (n % nonzeroCount)
 
 -- ---- "its rule shown over the whole of it": of the 255 entries, each is below 255, α to it is the entry's number, and the entry of each power of α
--- is its exponent. (A list that is an argument is computed once.)
+-- is its exponent. (Both are one test: the lists are arguments, so that each is computed once.)
 
-numbersOf : List ℕ → List ℕ → List ℕ
-numbersOf p l = values (λ k. getD p (getD l k 0) 0) 0 nonzeroCount
+-- the powers by the logarithms in the table's order, and the entries of the powers in theirs
+lookedUp : List ℕ → List ℕ → List ℕ × List ℕ
+lookedUp p l = (map (λ n. getD p n 0) l, map (λ x. getD l (x - 1) 0) p)
 
-numbers-test : numbersOf powers logs ≡ values suc 0 nonzeroCount
-unfolding numbersOf values powers logs powersFrom stored timesAlpha _⊕_
-numbers-test = refl
-
-exponentsOf : List ℕ → List ℕ → List ℕ
-exponentsOf p l = values (λ n. getD l (getD p n 0 - 1) 0) 0 nonzeroCount
-
-exponents-test : exponentsOf powers logs ≡ values (λ n. n) 0 nonzeroCount
-unfolding exponentsOf values powers logs powersFrom stored timesAlpha _⊕_
-exponents-test = refl
+table-rule : _≡_ {A = List ℕ × List ℕ} (lookedUp powers logs) (values suc 0 nonzeroCount, values (λ n. n) 0 nonzeroCount)
+unfolding lookedUp values powers logs powersFrom stored timesAlpha _⊕_
+table-rule = refl
 
 module _ (x : ℕ) (nonzero : 0 < x) (byte : x < 256) where
   power-there : getD powers (log x) 0 ≡ x
-  unfolding log numbersOf
+  unfolding log lookedUp
   power-there =
       let e : suc (x - 1) ≡ x = omega arith in
-      agree (λ k. getD powers (getD logs k 0) 0) suc nonzeroCount numbers-test (x - 1) (omega arith) ∙ e
+      mapped (λ n. getD powers n 0) suc logs nonzeroCount (ap (λ (p : List ℕ × List ℕ). p .0) table-rule) (x - 1) (omega arith) ∙ e
 
   pub log-lt : log x < nonzeroCount
   unfolding powers
@@ -94,10 +88,9 @@ module _ (x : ℕ) (nonzero : 0 < x) (byte : x < 256) where
   power-log = sym (powers-at 1 nonzeroCount (log x) log-lt) ∙ power-there
 
 pub log-power : (n : ℕ) → n < nonzeroCount → log (timesPower n 1) ≡ n
-unfolding log exponentsOf powers
+unfolding log lookedUp powers
 log-power n h =
-    ap (λ (p : ℕ). getD logs (p - 1) 0) (sym (powers-at 1 nonzeroCount n h))
-    ∙ agree (λ n. getD logs (getD powers n 0 - 1) 0) (λ n. n) nonzeroCount exponents-test n h
+    ap log (sym (powers-at 1 nonzeroCount n h)) ∙ mapped log (λ n. n) powers nonzeroCount (ap (λ (p : List ℕ × List ℕ). p .1) table-rule) n h
 
 -- ---- from one value to another
 
@@ -133,7 +126,10 @@ module _ (a b : ℕ) where
     }
 
     pub to-zero : a < 256 → a ≢ 0 → b ≡ 0 → LeastExponent a b nonzeroCount
-    to-zero byte some zero-b = record { takes = λ h. absurd (omega arith); is-least = λ k e. absurd (some (power-only-zero k a byte (e ∙ zero-b))) }
+    to-zero byte some zero-b = record {
+      takes = λ h. absurd (omega arith);
+      is-least = λ k e. absurd (never-zero ((log a + k) % nonzeroCount) (omega arith) (sym (as-power a (omega arith) byte k) ∙ e ∙ zero-b));
+    }
 
   pub by-logs : a < 256 → b < 256 → a ≢ 0 → b ≢ 0 → {x y : ℕ} → x ≡ log a → y ≡ log b
       → LeastExponent a b ((y + nonzeroCount - x) % nonzeroCount)

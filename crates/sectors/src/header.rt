@@ -70,9 +70,8 @@ pub(crate) fn at_alpha(h: &[u8]) -> u8
     v
 }
 
-// Whether six bytes are a multiple of (x + 1)(x + α): they are zero at 1 and at α.
+// Whether bytes are zero at 1 and at α: six are then a multiple of (x + 1)(x + α).
 fn is_multiple(h: &[u8]) -> bool
-    requires { ⌜ length (now h) ≡ 6 ⌝ }
     ensures { λ r. ⌜ r ≡ isMultiple (now (h .entry)) ⌝ }
 {
     (at_one(h) == 0) & (at_alpha(h) == 0)

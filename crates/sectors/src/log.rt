@@ -1,6 +1,7 @@
 // Logarithms in the field, to the base α.
 ghost use mathlib.Core.Path.{_≡_};
-ghost use Rattle.sectors.specs.Log.{LeastExponent, logs};
+ghost use mathlib.Core.Logic.{_≢_};
+ghost use Rattle.sectors.specs.Log.{LeastExponent, log};
 
 // How many values of the field are not zero: α has as many powers.
 const NONZERO_COUNT: usize = 255;
@@ -264,10 +265,12 @@ const LOGS: [u8; NONZERO_COUNT] = [
     175,
 ];
 
-fn logs() -> [u8; NONZERO_COUNT]
-    ensures { λ r. ⌜ r ≡ logs ⌝ }
+// The logarithm of a nonzero value.
+fn log_of(x: u8) -> u8
+    requires { ⌜ x ≢ 0 ⌝ }
+    ensures { λ r. ⌜ r ≡ log x ⌝ }
 {
-    LOGS
+    LOGS[x as usize - 1]
 }
 
 // The least n for which α to the n takes one value to another, the difference of their logarithms modulo 255; 255 if there is none.
@@ -283,8 +286,5 @@ pub(crate) fn least_exponent(from: u8, to: u8) -> usize
     if to == 0 {
         return NONZERO_COUNT;
     }
-    let table = logs();
-    let a = table[from as usize - 1] as usize;
-    let b = table[to as usize - 1] as usize;
-    (b + NONZERO_COUNT - a) % NONZERO_COUNT
+    (log_of(to) as usize + NONZERO_COUNT - log_of(from) as usize) % NONZERO_COUNT
 }

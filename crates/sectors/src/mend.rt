@@ -7,6 +7,7 @@ ghost use lib.ListN.{length};
 ghost use Rattle.sectors.specs.Refusal.{beyondMending};
 ghost use Rattle.sectors.specs.Audit.{HeaderIn, headerAt};
 ghost use Rattle.sectors.specs.Mend.{Mends, Mendable, BeyondMending, OneByteChanged, mendedTo, mendedOf, mendOf};
+use crate::bytes::copy_bytes;
 use crate::header::HEADER_FORMAT;
 use crate::header::HEADER_SIZE;
 use crate::header::at_alpha;
@@ -21,8 +22,8 @@ use crate::sector::contains;
 use crate::sector::is_foreign;
 use crate::sector::stored_part;
 
-// What stands beside a refusal.
-const SIX_ZEROS: [u8; HEADER_SIZE] = [0; HEADER_SIZE];
+// The place of a header's last byte.
+const LAST_PLACE: usize = HEADER_SIZE - 1;
 
 // The header that a sector's mends to, or a refusal and zeros.
 #[repr(C)]
@@ -41,20 +42,13 @@ fn mend_bytes(h: &[u8]) -> Mended
     if HEADER_SIZE <= behind {
         return Mended {
             refusal: BEYOND_MENDING,
-            header: SIX_ZEROS,
+            header: [0u8; HEADER_SIZE],
         };
     }
-    let bytes = [h[0], h[1], h[2], h[3], h[4], h[5]];
-    // As it is: a byte stored at a computed place would cost more.
-    if change == 0 {
-        return Mended {
-            refusal: 0,
-            header: bytes,
-        };
-    }
-    let mut header = bytes;
-    let place = HEADER_SIZE - 1 - behind;
-    header[place] = header[place] ^ change;
+    let mut header = [0u8; HEADER_SIZE];
+    copy_bytes(h, &mut header, 0);
+    let place = LAST_PLACE - behind;
+    header[place] = h[place] ^ change;
     Mended { refusal: 0, header }
 }
 
@@ -66,22 +60,23 @@ pub fn mend(format: u32, image: &[u8], lsn: Lsn) -> Mended
     ensures beyond { λ r. ⌜ (r .refusal ≡ beyondMending) ↔ HeaderIn BeyondMending format (now (image .entry)) (lsn .0) ⌝ }
     ensures comes_back { λ r. ⌜ ((g : List ℕ) → HeaderIn (OneByteChanged g) format (now (image .entry)) (lsn .0) → r ≡ mendedTo g) ⌝ }
 {
+    let zeros = [0u8; HEADER_SIZE];
     if is_foreign(format) {
         return Mended {
             refusal: FOREIGN_FORMAT,
-            header: SIX_ZEROS,
+            header: zeros,
         };
     }
     if format != HEADER_FORMAT {
         return Mended {
             refusal: NO_HEADER,
-            header: SIX_ZEROS,
+            header: zeros,
         };
     }
     if !contains(format, image.len(), lsn, 1) {
         return Mended {
             refusal: NO_SUCH_ENTRY,
-            header: SIX_ZEROS,
+            header: zeros,
         };
     }
     mend_bytes(stored_part(format, image, lsn.0 as usize, 0, HEADER_SIZE))

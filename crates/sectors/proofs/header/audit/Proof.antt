@@ -51,9 +51,7 @@ returns-4 c =
     (blank-answer _ _ _ (two .if2 .left) (there .before .contains .ensures) (there .if3 .left) (part .stored-part .ensures .0) (c .before .is-blank .ensures) (c .if4 .taken))
 
 is-multiple-requires : tie.Need-is-multiple-requires
-is-multiple-requires c κs =
-    let part = c .before .before in let there = part .before .before in
-    six-long _ _ _ (there .before .before .if2 .left) (there .before .contains .ensures) (there .if3 .left) (part .stored-part .ensures .0)
+is-multiple-requires c κs = search needs
 
 returns-5 : tie.Need-returns-5
 returns-5 c =
