@@ -13,14 +13,14 @@ unfoldable pub values : (ℕ → ℕ) → ℕ → ℕ → List ℕ
 values f i zero = []
 values f i (suc n) = f i ∷ values f (suc i) n
 
-value-at : (f : ℕ → ℕ) (n i k : ℕ) (d : ℕ) → k < n → getD (values f i n) k d ≡ f (i + k)
+value-at : (f : ℕ → ℕ) (n i k d : ℕ) → k < n → getD (values f i n) k d ≡ f (i + k)
 unfolding values
 value-at f zero i k d h = absurd (not-suc-le-zero h)
 value-at f (suc n) i zero d h = ap f (sym (add-zero i))
 value-at f (suc n) i (suc k) d h = value-at f n (suc i) k d (le-of-suc-le-suc h) ∙ ap f (suc-add i k ∙ sym (add-suc i k))
 
 -- at a table that computes to `values f 0 n`
-rule : (f : ℕ → ℕ) (n k : ℕ) (d : ℕ) → k < n → getD (values f 0 n) k d ≡ f k
+rule : (f : ℕ → ℕ) (n k d : ℕ) → k < n → getD (values f 0 n) k d ≡ f k
 rule f n k d h = value-at f n 0 k d h ∙ ap f (zero-add k)
 
 -- two rules that have the same values

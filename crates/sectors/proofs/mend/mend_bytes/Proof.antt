@@ -1,5 +1,4 @@
--- `sectors::mend::mend_bytes` meets its contract: by the exponent that is found a header mends, or none does; a list of six is its six places.
--- Assumes nothing.
+-- `sectors::mend::mend_bytes` meets its contract: by the exponent that is found a header mends, or none does. Assumes nothing.
 use mathlib.Core.Path.{_∙_}
 use native.Mathlib.Omega.{arith}
 use borrow.Author.Needs.{needs}
