@@ -231,3 +231,8 @@ plain-run image lsn (suc n) h =
     let place : (lsn + n) * sectorSize + 0 ≡ lsn * sectorSize + n * sectorSize = omega arith in
     let size : suc n * sectorSize ≡ n * sectorSize + sectorSize = omega arith in
     rw (front, last, place, size, take-add (n * sectorSize) sectorSize (drop (lsn * sectorSize) image), drop-drop (n * sectorSize) (lsn * sectorSize) image)
+
+-- ---- format 2, `Raw2064`
+pub raw2064-size : storedSize 2 ≡ 2064
+unfolding storedSize layoutOf
+raw2064-size = refl

@@ -1,0 +1,71 @@
+-- Laws of parts of a list, and of lists of one size one after another. Assumes nothing.
+use Prim.Native.Nat.{ℕ, zero, suc, _+_, _*_, _<_}
+use native.Mathlib.Decide.{ℕ-discrete}
+use native.Mathlib.Nat.{zero-mul}
+use native.Mathlib.Omega.{arith}
+use mathlib.Core.Path.{_≡_, refl, sym, ap, ap₂, _∙_}
+use mathlib.Core.List.{List, _++_, append-assoc}
+use lib.ListN.{length, take, drop, length-append, take-append-drop}
+use lib.Seq.{take-add, drop-drop, take-at, drop-at}
+use Rattle.sectors.specs.Fill.{part}
+use Rattle.tape.specs.Store.{blocks}
+
+-- two parts one behind the other are one
+pub part-add : (at m n : ℕ) (l : List ℕ) → part at m l ++ part (at + m) n l ≡ part at (m + n) l
+unfolding part
+part-add at m n l = sym (take-add m n (drop at l) ∙ ap (λ (r : List ℕ). take m (drop at l) ++ take n r) (drop-drop m at l))
+
+-- a part, and what is behind it
+pub part-then : (at n : ℕ) (l : List ℕ) → part at n l ++ drop (at + n) l ≡ drop at l
+unfolding part
+part-then at n l = ap (λ (r : List ℕ). take n (drop at l) ++ r) (sym (drop-drop n at l)) ∙ take-append-drop n (drop at l)
+
+-- the second of three lists is a part of all
+pub part-middle : (a b c : List ℕ) (at n : ℕ) → length a ≡ at → length b ≡ n → part at n (a ++ (b ++ c)) ≡ b
+unfolding part
+part-middle a b c at n e f = ap (take n) (drop-at a (b ++ c) at e) ∙ take-at b c n f
+
+module _ (f : ℕ → List ℕ) (size : ℕ) where
+  pub blocks-length : (n : ℕ) → ((k : ℕ) → k < n → length (f k) ≡ size) → length (blocks f n) ≡ n * size
+  unfolding blocks
+  blocks-length zero sized = sym (zero-mul size)
+  blocks-length (suc n) sized =
+      let e = blocks-length n (λ k q. sized k (omega arith)) in
+      let p = sized n (omega arith) in
+      rw length-append (omega arith)
+
+  -- block k of them, whatever stands before and behind them
+  pub block-at : (before rest : List ℕ) (at n k : ℕ) → length before ≡ at → ((j : ℕ) → j < n → length (f j) ≡ size) → k < n
+      → part (at + k * size) size (before ++ (blocks f n ++ rest)) ≡ f k
+  unfolding blocks
+  block-at before rest at zero k e sized q = absurd (omega arith)
+  block-at before rest at (suc n) k e sized q = go (ℕ-discrete k n) (λ s. block-at before (f n ++ rest) at n k e (λ j r. sized j (omega arith)) s)
+    where
+      behind : blocks f n ++ f n ++ rest ≡ blocks f n ++ (f n ++ rest)
+      behind = append-assoc (blocks f n) (f n) rest
+
+      last : part (at + n * size) size (before ++ (blocks f n ++ (f n ++ rest))) ≡ f n
+      last =
+          let long = blocks-length n (λ j r. sized j (omega arith)) in
+          ap (part (at + n * size) size) (sym (append-assoc before (blocks f n) (f n ++ rest)))
+          ∙ part-middle (before ++ blocks f n) (f n) rest (at + n * size) size (rw length-append (omega arith)) (sized n (omega arith))
+
+      go : Dec (k ≡ n) → (k < n → part (at + k * size) size (before ++ (blocks f n ++ (f n ++ rest))) ≡ f k)
+          → part (at + k * size) size (before ++ (blocks f n ++ f n ++ rest)) ≡ f k
+      go (yes e) earlier = ap (λ (l : List ℕ). part (at + k * size) size (before ++ l)) behind ∙ rw e last
+      go (no e) earlier = ap (λ (l : List ℕ). part (at + k * size) size (before ++ l)) behind ∙ earlier (omega arith)
+
+pub blocks-same : (f g : ℕ → List ℕ) (n : ℕ) → ((k : ℕ) → k < n → f k ≡ g k) → blocks f n ≡ blocks g n
+unfolding blocks
+blocks-same f g zero same = refl
+blocks-same f g (suc n) same = ap₂ (λ (a b : List ℕ). a ++ b) (blocks-same f g n (λ k q. same k (omega arith))) (same n (omega arith))
+
+-- parts that stand one behind another are one part
+pub blocks-part : (at size : ℕ) (l : List ℕ) (n : ℕ) → blocks (λ k. part (at + k * size) size l) n ≡ part at (n * size) l
+unfolding blocks part
+blocks-part at size l zero = sym (ap (λ (m : ℕ). take m (drop at l)) (zero-mul size))
+blocks-part at size l (suc n) =
+    let e : n * size + size ≡ suc n * size = omega arith in
+    ap (λ (b : List ℕ). b ++ part (at + n * size) size l) (blocks-part at size l n)
+    ∙ part-add at (n * size) size l
+    ∙ ap (λ (m : ℕ). part at m l) e

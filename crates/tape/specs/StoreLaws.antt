@@ -1,0 +1,210 @@
+-- Laws of the tape store: each way undoes the other. Both go by the pieces of one kind, which are `size` bytes behind `offset` in each sector.
+-- Assumes nothing.
+use Prim.Native.Nat.{ℕ, _+_, _*_, _≤_, _<_}
+use native.Mathlib.Nat.{mul-le-mul-left, mul-le-mul-right}
+use native.Mathlib.Omega.{arith}
+use mathlib.Core.Path.{_≡_, refl, sym, ap, ap₂, _∙_}
+use mathlib.Core.List.{List, [], _++_, append-assoc, append-nil}
+use borrow.Author.Tests.{eq-eqb}
+use lib.ListN.{length, drop, length-append, length-drop}
+use lib.Seq.{drop-at}
+use Rattle.sectors.specs.Audit.{headerFormat}
+use Rattle.sectors.specs.Fill.{part}
+use Rattle.sectors.specs.FillLaws.{part-length, part-part}
+use Rattle.sectors.specs.Format.{sectorSize}
+use Rattle.sectors.specs.Sector.{sectorCount}
+use Rattle.sectors.specs.SectorLaws.{count-fits, raw2064-size}
+use Rattle.tape.specs.Store.{headSize, tailSize, tailOffset, stored, sectorsIn, blocks, pieceOf, headOf, dataOf, tailOf, gathered, pieceFrom, sectorFrom, scattered, gatherInto, scatterInto}
+use Rattle.tape.specs.BlockLaws.{part-add, part-then, part-middle, blocks-length, block-at, blocks-same, blocks-part}
+
+-- whole sectors lie in the image
+pub whole-sectors : (x : List ℕ) → sectorsIn x * stored ≤ length x
+unfolding sectorsIn
+whole-sectors x = rw raw2064-size at (count-fits headerFormat (length x) (sectorCount headerFormat (length x)) (omega arith))
+
+-- all pieces of a kind, and what is behind them
+pieces-then : (n offset size : ℕ) (x : List ℕ) → blocks (pieceFrom n offset size x) n ++ drop (n * (offset + size)) x ≡ drop (n * offset) x
+unfolding pieceFrom
+pieces-then n offset size x =
+    let e : n * (offset + size) ≡ n * offset + n * size = omega arith in
+    ap₂ (λ (l : List ℕ) (m : ℕ). l ++ drop m x) (blocks-part (n * offset) size x n) e ∙ part-then (n * offset) (n * size) x
+
+-- those of the first kind have nothing before them
+pieces-all : (n size : ℕ) (x : List ℕ) → blocks (pieceFrom n 0 size x) n ++ drop (n * size) x ≡ x
+pieces-all n size x =
+    let none : n * 0 ≡ 0 = omega arith in let all : size ≡ 0 + size = omega arith in
+    ap (λ (m : ℕ). blocks (pieceFrom n 0 size x) n ++ drop (n * m) x) all ∙ pieces-then n 0 size x ∙ ap (λ (m : ℕ). drop m x) none
+
+-- head, data and tail of a stored sector are all of it
+pieces-join : (n : ℕ) (x : List ℕ) (k : ℕ)
+    → pieceOf 0 headSize x k ++ (pieceOf headSize sectorSize x k ++ pieceOf tailOffset tailSize x k) ≡ pieceFrom n 0 stored x k
+unfolding pieceOf pieceFrom
+pieces-join n x k =
+    let data-at : k * stored + headSize ≡ k * stored + 0 + headSize = omega arith in
+    let tail-at : k * stored + tailOffset ≡ k * stored + headSize + sectorSize = omega arith in
+    let start : k * stored + 0 ≡ n * 0 + k * stored = omega arith in
+    ap (λ (l : List ℕ). part (k * stored + 0) headSize x ++ l)
+    (ap (λ (p : ℕ). part (k * stored + headSize) sectorSize x ++ part p tailSize x) tail-at
+    ∙ part-add (k * stored + headSize) sectorSize tailSize x
+    ∙ ap (λ (p : ℕ). part p (sectorSize + tailSize) x) data-at)
+    ∙ part-add (k * stored + 0) headSize (sectorSize + tailSize) x
+    ∙ ap (λ (p : ℕ). part p stored x) start
+
+module _ (n : ℕ) (x : List ℕ) (whole : n * stored ≤ length x) where
+  -- ---- how long they are
+
+  module _ (offset size : ℕ) (inside : offset + size ≤ stored) where
+    pub piece-length : (k : ℕ) → k < n → length (pieceOf offset size x k) ≡ size
+    unfolding pieceOf
+    piece-length k q = part-length (k * stored + offset) size x (omega arith)
+
+    pub pieces-length : length (blocks (pieceOf offset size x) n) ≡ n * size
+    pieces-length = blocks-length (pieceOf offset size x) size n piece-length
+
+    pub from-length : (k : ℕ) → k < n → length (pieceFrom n offset size x k) ≡ size
+    unfolding pieceFrom
+    from-length k q =
+        let below : (k + 1) * size ≤ n * size = mul-le-mul-right size (omega arith) in
+        let all : n * (offset + size) ≤ n * stored = mul-le-mul-left n inside in
+        part-length (n * offset + k * size) size x (omega arith)
+
+  pub sector-length : (k : ℕ) → k < n → length (sectorFrom n x k) ≡ stored
+  unfolding sectorFrom
+  sector-length k q =
+      let h = from-length 0 headSize (omega arith) k q in
+      let d = from-length headSize sectorSize (omega arith) k q in
+      let t = from-length tailOffset tailSize (omega arith) k q in
+      simp length-append (omega arith)
+
+  pub sectors-length : length (blocks (sectorFrom n x) n) ≡ n * stored
+  sectors-length = blocks-length (sectorFrom n x) stored n sector-length
+
+  abbrev heads : List ℕ
+  heads = blocks (pieceOf 0 headSize x) n
+
+  abbrev datas : List ℕ
+  datas = blocks (pieceOf headSize sectorSize x) n
+
+  abbrev tails : List ℕ
+  tails = blocks (pieceOf tailOffset tailSize x) n
+
+  abbrev rest : List ℕ
+  rest = drop (n * stored) x
+
+  pub heads-length : length heads ≡ n * headSize
+  heads-length = pieces-length 0 headSize (omega arith)
+
+  pub both-length : length (heads ++ datas) ≡ n * tailOffset
+  both-length = let h = heads-length in let d = pieces-length headSize sectorSize (omega arith) in rw length-append (omega arith)
+
+  pub all-length : length (heads ++ datas ++ tails) ≡ n * stored
+  all-length = let b = both-length in let t = pieces-length tailOffset tailSize (omega arith) in rw length-append (omega arith)
+
+  -- the gathered bytes, and what stands in them before the tails, and before the rest
+  before-heads : gathered n x ≡ heads ++ (datas ++ (tails ++ rest))
+  unfolding gathered headOf dataOf tailOf
+  before-heads = refl
+
+  before-tails : gathered n x ≡ heads ++ datas ++ (tails ++ rest)
+  before-tails = before-heads ∙ sym (append-assoc heads datas (tails ++ rest))
+
+  pub before-rest : gathered n x ≡ heads ++ datas ++ tails ++ rest
+  before-rest = before-tails ∙ sym (append-assoc (heads ++ datas) tails rest)
+
+  pub gathered-length : length (gathered n x) ≡ length x
+  gathered-length = let a = all-length in ap length before-rest ∙ rw (length-append (heads ++ datas ++ tails) rest, length-drop) (omega arith)
+
+  pub scattered-length : length (scattered n x) ≡ length x
+  unfolding scattered
+  scattered-length = let a = sectors-length in simp (length-append, length-drop) (omega arith)
+
+  -- ---- the way back
+
+  -- piece k of a kind, in gathered bytes
+  piece-in : (offset size : ℕ) → offset + size ≤ stored → (before behind : List ℕ) → length before ≡ n * offset
+      → gathered n x ≡ before ++ (blocks (pieceOf offset size x) n ++ behind) → (k : ℕ) → k < n
+      → pieceFrom n offset size (gathered n x) k ≡ pieceOf offset size x k
+  unfolding pieceFrom
+  piece-in offset size inside before behind e stands k q =
+      ap (part (n * offset + k * size) size) stands
+      ∙ block-at (pieceOf offset size x) size before behind (n * offset) n k e (piece-length offset size inside) q
+
+  -- the three are the stored sector
+  sector-in : (k : ℕ) → k < n → sectorFrom n (gathered n x) k ≡ pieceFrom n 0 stored x k
+  unfolding sectorFrom
+  sector-in k q =
+      ap₂ (λ (a b : List ℕ). a ++ b) (piece-in 0 headSize (omega arith) [] (datas ++ (tails ++ rest)) (omega arith) before-heads k q)
+      (ap₂ (λ (a b : List ℕ). a ++ b) (piece-in headSize sectorSize (omega arith) heads (tails ++ rest) heads-length before-heads k q)
+      (piece-in tailOffset tailSize (omega arith) (heads ++ datas) rest both-length before-tails k q))
+      ∙ pieces-join n x k
+
+  -- "The way back restores each image of any length byte for byte."
+  pub scatter-gathered : scattered n (gathered n x) ≡ x
+  unfolding scattered
+  scatter-gathered =
+      ap₂ (λ (a b : List ℕ). a ++ b) (blocks-same (sectorFrom n (gathered n x)) (pieceFrom n 0 stored x) n sector-in)
+      (ap (drop (n * stored)) before-rest ∙ drop-at (heads ++ datas ++ tails) rest (n * stored) all-length)
+      ∙ pieces-all n stored x
+
+  -- ---- and forth
+
+  -- a piece of a kind, in scattered bytes
+  piece-out : (offset size : ℕ) → offset + size ≤ stored → (k : ℕ) → k < n → (before behind : List ℕ) → length before ≡ offset
+      → sectorFrom n x k ≡ before ++ (pieceFrom n offset size x k ++ behind)
+      → pieceOf offset size (scattered n x) k ≡ pieceFrom n offset size x k
+  unfolding pieceOf scattered
+  piece-out offset size inside k q before behind e stands =
+      let long = scattered-length in
+      let here : k * stored ≡ 0 + k * stored = omega arith in
+      sym (part-part (k * stored) stored offset size (scattered n x) inside (omega arith))
+      ∙ ap (part offset size)
+      (ap (λ (p : ℕ). part p stored (scattered n x)) here
+      ∙ block-at (sectorFrom n x) stored [] rest 0 n k refl sector-length q
+      ∙ stands)
+      ∙ part-middle before (pieceFrom n offset size x k) behind offset size e (from-length offset size inside k q)
+
+  -- the tail, behind the other two
+  tail-out : (k : ℕ) → k < n → pieceOf tailOffset tailSize (scattered n x) k ≡ pieceFrom n tailOffset tailSize x k
+  unfolding sectorFrom
+  tail-out k q =
+      let h = pieceFrom n 0 headSize x k in let d = pieceFrom n headSize sectorSize x k in let t = pieceFrom n tailOffset tailSize x k in
+      let h-long = from-length 0 headSize (omega arith) k q in let d-long = from-length headSize sectorSize (omega arith) k q in
+      piece-out tailOffset tailSize (omega arith) k q (h ++ d) [] (rw length-append (omega arith))
+      (sym (append-assoc h d t) ∙ ap (λ (l : List ℕ). h ++ d ++ l) (sym (append-nil t)))
+
+  rest-out : drop (n * stored) (scattered n x) ≡ rest
+  unfolding scattered
+  rest-out = drop-at (blocks (sectorFrom n x) n) rest (n * stored) sectors-length
+
+  -- so no two images are gathered alike, and all bytes are some image's
+  pub gather-scattered : gathered n (scattered n x) ≡ x
+  unfolding gathered headOf dataOf tailOf sectorFrom
+  gather-scattered =
+      let head = pieceFrom n 0 headSize x in
+      ap₂ (λ (a b : List ℕ). a ++ b) (blocks-same (pieceOf 0 headSize (scattered n x)) head n (λ k q. piece-out 0 headSize (omega arith) k q [] _ refl refl))
+      (ap₂ (λ (a b : List ℕ). a ++ b)
+      (blocks-same (pieceOf headSize sectorSize (scattered n x)) (pieceFrom n headSize sectorSize x) n
+      (λ k q. piece-out headSize sectorSize (omega arith) k q (head k) _ (from-length 0 headSize (omega arith) k q) refl))
+      (ap₂ (λ (a b : List ℕ). a ++ b) (blocks-same (pieceOf tailOffset tailSize (scattered n x)) (pieceFrom n tailOffset tailSize x) n tail-out) rest-out
+      ∙ pieces-then n tailOffset tailSize x)
+      ∙ pieces-then n headSize sectorSize x)
+      ∙ pieces-all n headSize x
+
+-- ---- a call and the other
+
+module _ (x old old′ : List ℕ) (same : length x ≡ length old) (same′ : length x ≡ length old′) where
+  -- "The way back restores each image of any length byte for byte."
+  pub way-back : scatterInto (gatherInto x old) old′ ≡ x
+  unfolding gatherInto scatterInto sectorsIn
+  way-back =
+      let n = sectorsIn x in let e = gathered-length n x (whole-sectors x) in
+      rw (eq-eqb (length x) (length old) same, eq-eqb (length (gathered n x)) (length old′) (e ∙ same′))
+      (ap (λ (m : ℕ). scattered (sectorCount headerFormat m) (gathered n x)) e ∙ scatter-gathered n x (whole-sectors x))
+
+  -- and the other order
+  pub way-forth : gatherInto (scatterInto x old) old′ ≡ x
+  unfolding gatherInto scatterInto sectorsIn
+  way-forth =
+      let n = sectorsIn x in let e = scattered-length n x (whole-sectors x) in
+      rw (eq-eqb (length x) (length old) same, eq-eqb (length (scattered n x)) (length old′) (e ∙ same′))
+      (ap (λ (m : ℕ). gathered (sectorCount headerFormat m) (scattered n x)) e ∙ gather-scattered n x (whole-sectors x))

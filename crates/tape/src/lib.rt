@@ -1,0 +1,2 @@
+// The store for tapes: the bytes of an image in another order, and back.
+pub mod store;
