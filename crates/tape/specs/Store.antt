@@ -20,8 +20,8 @@ tailSize = 4
 abbrev pub tailOffset : ℕ
 tailOffset = headSize + sectorSize
 
-abbrev pub stored : ℕ
-stored = tailOffset + tailSize
+abbrev pub rawSize : ℕ
+rawSize = tailOffset + tailSize
 
 -- "For a format 2 image": its whole sectors
 unfoldable pub sectorsIn : List ℕ → ℕ
@@ -36,7 +36,7 @@ blocks f (suc n) = blocks f n ++ f n
 
 -- `size` bytes of stored sector `k`, from `offset` on
 unfoldable pub pieceOf : ℕ → ℕ → List ℕ → ℕ → List ℕ
-pieceOf offset size image k = part (k * stored + offset) size image
+pieceOf offset size image k = part (k * rawSize + offset) size image
 
 -- its head, its data and its tail
 unfoldable pub headOf : List ℕ → ℕ → List ℕ
@@ -51,7 +51,7 @@ tailOf = pieceOf tailOffset tailSize
 -- "write all 12-byte heads, then all data, then all 4-byte tails, then any rest shorter than a sector as it came": of `n` sectors
 unfoldable pub gathered : ℕ → List ℕ → List ℕ
 gathered n image =
-    blocks (headOf image) n ++ (blocks (dataOf image) n ++ (blocks (tailOf image) n ++ drop (n * stored) image))
+    blocks (headOf image) n ++ (blocks (dataOf image) n ++ (blocks (tailOf image) n ++ drop (n * rawSize) image))
 
 -- ---- scattered
 
@@ -66,7 +66,7 @@ sectorFrom n bytes k =
 
 -- "The way back": sector by sector, then the rest
 unfoldable pub scattered : ℕ → List ℕ → List ℕ
-scattered n bytes = blocks (sectorFrom n bytes) n ++ drop (n * stored) bytes
+scattered n bytes = blocks (sectorFrom n bytes) n ++ drop (n * rawSize) bytes
 
 -- ---- what a call answers
 

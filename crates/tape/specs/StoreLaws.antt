@@ -14,13 +14,12 @@ use Rattle.sectors.specs.FillLaws.{part-length, part-part}
 use Rattle.sectors.specs.Format.{sectorSize}
 use Rattle.sectors.specs.Sector.{sectorCount}
 use Rattle.sectors.specs.SectorLaws.{count-fits, raw2064-size}
-use Rattle.tape.specs.Store.{headSize, tailSize, tailOffset, stored, sectorsIn, blocks, pieceOf, headOf, dataOf, tailOf, gathered, pieceFrom, sectorFrom, scattered, gatherInto, scatterInto}
+use Rattle.tape.specs.Store.{headSize, tailSize, tailOffset, rawSize, sectorsIn, blocks, pieceOf, headOf, dataOf, tailOf, gathered, pieceFrom, sectorFrom, scattered, gatherInto, scatterInto}
 use Rattle.tape.specs.BlockLaws.{part-add, part-then, part-middle, blocks-length, block-at, blocks-same, blocks-part}
 
 -- whole sectors lie in the image
-pub whole-sectors : (x : List ℕ) → sectorsIn x * stored ≤ length x
-unfolding sectorsIn
-whole-sectors x = rw raw2064-size at (count-fits headerFormat (length x) (sectorCount headerFormat (length x)) (omega arith))
+pub whole-sectors : (n bytes : ℕ) → n ≡ sectorCount headerFormat bytes → n * rawSize ≤ bytes
+whole-sectors n bytes e = rw raw2064-size at (count-fits headerFormat bytes n (omega arith))
 
 -- all pieces of a kind, and what is behind them
 pieces-then : (n offset size : ℕ) (x : List ℕ) → blocks (pieceFrom n offset size x) n ++ drop (n * (offset + size)) x ≡ drop (n * offset) x
@@ -37,26 +36,26 @@ pieces-all n size x =
 
 -- head, data and tail of a stored sector are all of it
 pieces-join : (n : ℕ) (x : List ℕ) (k : ℕ)
-    → pieceOf 0 headSize x k ++ (pieceOf headSize sectorSize x k ++ pieceOf tailOffset tailSize x k) ≡ pieceFrom n 0 stored x k
+    → pieceOf 0 headSize x k ++ (pieceOf headSize sectorSize x k ++ pieceOf tailOffset tailSize x k) ≡ pieceFrom n 0 rawSize x k
 unfolding pieceOf pieceFrom
 pieces-join n x k =
-    let data-at : k * stored + headSize ≡ k * stored + 0 + headSize = omega arith in
-    let tail-at : k * stored + tailOffset ≡ k * stored + headSize + sectorSize = omega arith in
-    let start : k * stored + 0 ≡ n * 0 + k * stored = omega arith in
-    ap (λ (l : List ℕ). part (k * stored + 0) headSize x ++ l)
-    (ap (λ (p : ℕ). part (k * stored + headSize) sectorSize x ++ part p tailSize x) tail-at
-    ∙ part-add (k * stored + headSize) sectorSize tailSize x
+    let data-at : k * rawSize + headSize ≡ k * rawSize + 0 + headSize = omega arith in
+    let tail-at : k * rawSize + tailOffset ≡ k * rawSize + headSize + sectorSize = omega arith in
+    let start : k * rawSize + 0 ≡ n * 0 + k * rawSize = omega arith in
+    ap (λ (l : List ℕ). part (k * rawSize + 0) headSize x ++ l)
+    (ap (λ (p : ℕ). part (k * rawSize + headSize) sectorSize x ++ part p tailSize x) tail-at
+    ∙ part-add (k * rawSize + headSize) sectorSize tailSize x
     ∙ ap (λ (p : ℕ). part p (sectorSize + tailSize) x) data-at)
-    ∙ part-add (k * stored + 0) headSize (sectorSize + tailSize) x
-    ∙ ap (λ (p : ℕ). part p stored x) start
+    ∙ part-add (k * rawSize + 0) headSize (sectorSize + tailSize) x
+    ∙ ap (λ (p : ℕ). part p rawSize x) start
 
-module _ (n : ℕ) (x : List ℕ) (whole : n * stored ≤ length x) where
+module _ (n : ℕ) (x : List ℕ) (whole : n * rawSize ≤ length x) where
   -- ---- how long they are
 
-  module _ (offset size : ℕ) (inside : offset + size ≤ stored) where
+  module _ (offset size : ℕ) (inside : offset + size ≤ rawSize) where
     pub piece-length : (k : ℕ) → k < n → length (pieceOf offset size x k) ≡ size
     unfolding pieceOf
-    piece-length k q = part-length (k * stored + offset) size x (omega arith)
+    piece-length k q = part-length (k * rawSize + offset) size x (omega arith)
 
     pub pieces-length : length (blocks (pieceOf offset size x) n) ≡ n * size
     pieces-length = blocks-length (pieceOf offset size x) size n piece-length
@@ -65,10 +64,10 @@ module _ (n : ℕ) (x : List ℕ) (whole : n * stored ≤ length x) where
     unfolding pieceFrom
     from-length k q =
         let below : (k + 1) * size ≤ n * size = mul-le-mul-right size (omega arith) in
-        let all : n * (offset + size) ≤ n * stored = mul-le-mul-left n inside in
+        let all : n * (offset + size) ≤ n * rawSize = mul-le-mul-left n inside in
         part-length (n * offset + k * size) size x (omega arith)
 
-  pub sector-length : (k : ℕ) → k < n → length (sectorFrom n x k) ≡ stored
+  pub sector-length : (k : ℕ) → k < n → length (sectorFrom n x k) ≡ rawSize
   unfolding sectorFrom
   sector-length k q =
       let h = from-length 0 headSize (omega arith) k q in
@@ -76,8 +75,8 @@ module _ (n : ℕ) (x : List ℕ) (whole : n * stored ≤ length x) where
       let t = from-length tailOffset tailSize (omega arith) k q in
       simp length-append (omega arith)
 
-  pub sectors-length : length (blocks (sectorFrom n x) n) ≡ n * stored
-  sectors-length = blocks-length (sectorFrom n x) stored n sector-length
+  pub sectors-length : length (blocks (sectorFrom n x) n) ≡ n * rawSize
+  sectors-length = blocks-length (sectorFrom n x) rawSize n sector-length
 
   abbrev heads : List ℕ
   heads = blocks (pieceOf 0 headSize x) n
@@ -89,7 +88,7 @@ module _ (n : ℕ) (x : List ℕ) (whole : n * stored ≤ length x) where
   tails = blocks (pieceOf tailOffset tailSize x) n
 
   abbrev rest : List ℕ
-  rest = drop (n * stored) x
+  rest = drop (n * rawSize) x
 
   pub heads-length : length heads ≡ n * headSize
   heads-length = pieces-length 0 headSize (omega arith)
@@ -97,7 +96,7 @@ module _ (n : ℕ) (x : List ℕ) (whole : n * stored ≤ length x) where
   pub both-length : length (heads ++ datas) ≡ n * tailOffset
   both-length = let h = heads-length in let d = pieces-length headSize sectorSize (omega arith) in rw length-append (omega arith)
 
-  pub all-length : length (heads ++ datas ++ tails) ≡ n * stored
+  pub all-length : length (heads ++ datas ++ tails) ≡ n * rawSize
   all-length = let b = both-length in let t = pieces-length tailOffset tailSize (omega arith) in rw length-append (omega arith)
 
   -- the gathered bytes, and what stands in them before the tails, and before the rest
@@ -121,7 +120,7 @@ module _ (n : ℕ) (x : List ℕ) (whole : n * stored ≤ length x) where
   -- ---- the way back
 
   -- piece k of a kind, in gathered bytes
-  piece-in : (offset size : ℕ) → offset + size ≤ stored → (before behind : List ℕ) → length before ≡ n * offset
+  piece-in : (offset size : ℕ) → offset + size ≤ rawSize → (before behind : List ℕ) → length before ≡ n * offset
       → gathered n x ≡ before ++ (blocks (pieceOf offset size x) n ++ behind) → (k : ℕ) → k < n
       → pieceFrom n offset size (gathered n x) k ≡ pieceOf offset size x k
   unfolding pieceFrom
@@ -130,7 +129,7 @@ module _ (n : ℕ) (x : List ℕ) (whole : n * stored ≤ length x) where
       ∙ block-at (pieceOf offset size x) size before behind (n * offset) n k e (piece-length offset size inside) q
 
   -- the three are the stored sector
-  sector-in : (k : ℕ) → k < n → sectorFrom n (gathered n x) k ≡ pieceFrom n 0 stored x k
+  sector-in : (k : ℕ) → k < n → sectorFrom n (gathered n x) k ≡ pieceFrom n 0 rawSize x k
   unfolding sectorFrom
   sector-in k q =
       ap₂ (λ (a b : List ℕ). a ++ b) (piece-in 0 headSize (omega arith) [] (datas ++ (tails ++ rest)) (omega arith) before-heads k q)
@@ -142,24 +141,24 @@ module _ (n : ℕ) (x : List ℕ) (whole : n * stored ≤ length x) where
   pub scatter-gathered : scattered n (gathered n x) ≡ x
   unfolding scattered
   scatter-gathered =
-      ap₂ (λ (a b : List ℕ). a ++ b) (blocks-same (sectorFrom n (gathered n x)) (pieceFrom n 0 stored x) n sector-in)
-      (ap (drop (n * stored)) before-rest ∙ drop-at (heads ++ datas ++ tails) rest (n * stored) all-length)
-      ∙ pieces-all n stored x
+      ap₂ (λ (a b : List ℕ). a ++ b) (blocks-same (sectorFrom n (gathered n x)) (pieceFrom n 0 rawSize x) n sector-in)
+      (ap (drop (n * rawSize)) before-rest ∙ drop-at (heads ++ datas ++ tails) rest (n * rawSize) all-length)
+      ∙ pieces-all n rawSize x
 
   -- ---- and forth
 
   -- a piece of a kind, in scattered bytes
-  piece-out : (offset size : ℕ) → offset + size ≤ stored → (k : ℕ) → k < n → (before behind : List ℕ) → length before ≡ offset
+  piece-out : (offset size : ℕ) → offset + size ≤ rawSize → (k : ℕ) → k < n → (before behind : List ℕ) → length before ≡ offset
       → sectorFrom n x k ≡ before ++ (pieceFrom n offset size x k ++ behind)
       → pieceOf offset size (scattered n x) k ≡ pieceFrom n offset size x k
   unfolding pieceOf scattered
   piece-out offset size inside k q before behind e stands =
       let long = scattered-length in
-      let here : k * stored ≡ 0 + k * stored = omega arith in
-      sym (part-part (k * stored) stored offset size (scattered n x) inside (omega arith))
+      let here : k * rawSize ≡ 0 + k * rawSize = omega arith in
+      sym (part-part (k * rawSize) rawSize offset size (scattered n x) inside (omega arith))
       ∙ ap (part offset size)
-      (ap (λ (p : ℕ). part p stored (scattered n x)) here
-      ∙ block-at (sectorFrom n x) stored [] rest 0 n k refl sector-length q
+      (ap (λ (p : ℕ). part p rawSize (scattered n x)) here
+      ∙ block-at (sectorFrom n x) rawSize [] rest 0 n k refl sector-length q
       ∙ stands)
       ∙ part-middle before (pieceFrom n offset size x k) behind offset size e (from-length offset size inside k q)
 
@@ -172,9 +171,9 @@ module _ (n : ℕ) (x : List ℕ) (whole : n * stored ≤ length x) where
       piece-out tailOffset tailSize (omega arith) k q (h ++ d) [] (rw length-append (omega arith))
       (sym (append-assoc h d t) ∙ ap (λ (l : List ℕ). h ++ d ++ l) (sym (append-nil t)))
 
-  rest-out : drop (n * stored) (scattered n x) ≡ rest
+  rest-out : drop (n * rawSize) (scattered n x) ≡ rest
   unfolding scattered
-  rest-out = drop-at (blocks (sectorFrom n x) n) rest (n * stored) sectors-length
+  rest-out = drop-at (blocks (sectorFrom n x) n) rest (n * rawSize) sectors-length
 
   -- so no two images are gathered alike, and all bytes are some image's
   pub gather-scattered : gathered n (scattered n x) ≡ x
@@ -193,18 +192,22 @@ module _ (n : ℕ) (x : List ℕ) (whole : n * stored ≤ length x) where
 -- ---- a call and the other
 
 module _ (x old old′ : List ℕ) (same : length x ≡ length old) (same′ : length x ≡ length old′) where
+  whole : sectorsIn x * rawSize ≤ length x
+  unfolding sectorsIn
+  whole = whole-sectors (sectorsIn x) (length x) refl
+
   -- "The way back restores each image of any length byte for byte."
   pub way-back : scatterInto (gatherInto x old) old′ ≡ x
   unfolding gatherInto scatterInto sectorsIn
   way-back =
-      let n = sectorsIn x in let e = gathered-length n x (whole-sectors x) in
+      let n = sectorsIn x in let e = gathered-length n x whole in
       rw (eq-eqb (length x) (length old) same, eq-eqb (length (gathered n x)) (length old′) (e ∙ same′))
-      (ap (λ (m : ℕ). scattered (sectorCount headerFormat m) (gathered n x)) e ∙ scatter-gathered n x (whole-sectors x))
+      (ap (λ (m : ℕ). scattered (sectorCount headerFormat m) (gathered n x)) e ∙ scatter-gathered n x whole)
 
   -- and the other order
   pub way-forth : gatherInto (scatterInto x old) old′ ≡ x
   unfolding gatherInto scatterInto sectorsIn
   way-forth =
-      let n = sectorsIn x in let e = scattered-length n x (whole-sectors x) in
+      let n = sectorsIn x in let e = scattered-length n x whole in
       rw (eq-eqb (length x) (length old) same, eq-eqb (length (scattered n x)) (length old′) (e ∙ same′))
-      (ap (λ (m : ℕ). gathered (sectorCount headerFormat m) (scattered n x)) e ∙ gather-scattered n x (whole-sectors x))
+      (ap (λ (m : ℕ). gathered (sectorCount headerFormat m) (scattered n x)) e ∙ gather-scattered n x whole)

@@ -1,10 +1,11 @@
 // A format 2 image gathered for the tape store, all heads, all data, all tails, and scattered again. One pass over the image, sector by sector.
 ghost use mathlib.Core.Path.{_≡_};
 ghost use Prim.Native.Nat.{_+_, _*_, _≤_, _<_};
+ghost use mathlib.Core.Bool.{cond};
 ghost use lib.ListN.{length};
 ghost use Rattle.sectors.specs.Fill.{part, fill};
-ghost use Rattle.tape.specs.Store.{stored, sectorFrom, lengthsRefusal, gatherInto, scatterInto};
-ghost use Rattle.tape.specs.Steps.{sectorGathered};
+ghost use Rattle.tape.specs.Store.{rawSize, lengthsRefusal, gatherInto, scatterInto};
+ghost use Rattle.tape.specs.Steps.{pieceCopied, sectorCopied};
 use sectors::bytes::copy_bytes;
 use sectors::header::HEADER_FORMAT;
 use sectors::sector::SECTOR_SIZE;
@@ -14,7 +15,7 @@ use sectors::sector::sector_count;
 pub const UNEQUAL_LENGTHS: u8 = 20;
 
 // Bytes of a stored sector: a head, the data, a tail.
-const STORED_SIZE: usize = 2064;
+const RAW_SIZE: usize = 2064;
 
 const HEAD_SIZE: usize = 12;
 
@@ -31,50 +32,49 @@ fn copy_part(from: &[u8], at: usize, to: &mut [u8], place: usize, size: usize)
     copy_bytes(&from[at..at + size], &mut to[place..place + size], 0);
 }
 
-// Gathers sector k of n: its head, its data and its tail, each to its place.
-fn gather_sector(image: &[u8], out: &mut [u8], n: usize, k: usize)
-    requires { ⌜ (k < n) × ((n * stored ≤ length (now image)) × (length (now out) ≡ length (now image))) ⌝ }
-    ensures { λ r. ⌜ now (out .exit) ≡ sectorGathered n (now (image .entry)) k (now (out .entry)) ⌝ }
+// Copies a piece of a sector from its place in the image to that among gathered ones, or back.
+fn copy_piece(from: &[u8], to: &mut [u8], stored: usize, gathered: usize, size: usize, back: bool)
+    requires { ⌜ (stored + size ≤ length (now from)) × ((gathered + size ≤ length (now from)) × (length (now to) ≡ length (now from))) ⌝ }
+    ensures { λ r. ⌜ now (to .exit) ≡ pieceCopied back stored gathered size (now (from .entry)) (now (to .entry)) ⌝ }
 {
-    let at = k * STORED_SIZE;
-    copy_part(image, at, out, k * HEAD_SIZE, HEAD_SIZE);
-    copy_part(
-        image,
-        at + HEAD_SIZE,
-        out,
-        n * HEAD_SIZE + k * SECTOR_SIZE,
-        SECTOR_SIZE,
-    );
-    copy_part(
-        image,
-        at + TAIL_OFFSET,
-        out,
-        n * TAIL_OFFSET + k * TAIL_SIZE,
-        TAIL_SIZE,
-    );
+    if back {
+        copy_part(from, gathered, to, stored, size);
+    } else {
+        copy_part(from, stored, to, gathered, size);
+    }
 }
 
-// Scatters sector k of n: its head, its data and its tail, each from its place.
-fn scatter_sector(bytes: &[u8], out: &mut [u8], n: usize, k: usize)
-    requires { ⌜ (k < n) × ((n * stored ≤ length (now bytes)) × (length (now out) ≡ length (now bytes))) ⌝ }
-    ensures { λ r. ⌜ now (out .exit) ≡ fill (k * stored) (sectorFrom n (now (bytes .entry)) k) (now (out .entry)) ⌝ }
+// Copies sector k of n, forth or back: its head, its data and its tail.
+fn copy_sector(from: &[u8], to: &mut [u8], n: usize, k: usize, back: bool)
+    requires { ⌜ (k < n) × ((n * rawSize ≤ length (now from)) × (length (now to) ≡ length (now from))) ⌝ }
+    ensures { λ r. ⌜ now (to .exit) ≡ sectorCopied back n (now (from .entry)) k (now (to .entry)) ⌝ }
 {
-    let at = k * STORED_SIZE;
-    copy_part(bytes, k * HEAD_SIZE, out, at, HEAD_SIZE);
-    copy_part(
-        bytes,
-        n * HEAD_SIZE + k * SECTOR_SIZE,
-        out,
-        at + HEAD_SIZE,
-        SECTOR_SIZE,
-    );
-    copy_part(
-        bytes,
-        n * TAIL_OFFSET + k * TAIL_SIZE,
-        out,
-        at + TAIL_OFFSET,
-        TAIL_SIZE,
-    );
+    let stored = k * RAW_SIZE;
+    let data = n * HEAD_SIZE + k * SECTOR_SIZE;
+    let tail = n * TAIL_OFFSET + k * TAIL_SIZE;
+    copy_piece(from, to, stored, k * HEAD_SIZE, HEAD_SIZE, back);
+    copy_piece(from, to, stored + HEAD_SIZE, data, SECTOR_SIZE, back);
+    copy_piece(from, to, stored + TAIL_OFFSET, tail, TAIL_SIZE, back);
+}
+
+// Copies all sectors, forth or back, and the rest as it came. A refusal changes nothing.
+fn copy_image(from: &[u8], to: &mut [u8], back: bool) -> u8
+    ensures refusal { λ r. ⌜ r ≡ lengthsRefusal (length (now (from .entry))) (length (now (to .entry))) ⌝ }
+    ensures written { λ r. ⌜ now (to .exit) ≡ cond back (scatterInto (now (from .entry)) (now (to .entry))) (gatherInto (now (from .entry)) (now (to .entry))) ⌝ }
+{
+    let size = from.len();
+    if to.len() != size {
+        return UNEQUAL_LENGTHS;
+    }
+    let n = sector_count(HEADER_FORMAT, size);
+    let mut k: usize = 0;
+    while k < n {
+        copy_sector(from, to, n, k, back);
+        k += 1;
+    }
+    let whole = n * RAW_SIZE;
+    copy_part(from, whole, to, whole, size - whole);
+    0
 }
 
 // Writes all heads of a format 2 image, then all data, then all tails, then the rest as it came. A refusal changes nothing.
@@ -82,19 +82,7 @@ pub fn gather_sectors(image: &[u8], out: &mut [u8]) -> u8
     ensures refusal { λ r. ⌜ r ≡ lengthsRefusal (length (now (image .entry))) (length (now (out .entry))) ⌝ }
     ensures written { λ r. ⌜ now (out .exit) ≡ gatherInto (now (image .entry)) (now (out .entry)) ⌝ }
 {
-    let size = image.len();
-    if out.len() != size {
-        return UNEQUAL_LENGTHS;
-    }
-    let n = sector_count(HEADER_FORMAT, size);
-    let mut k: usize = 0;
-    while k < n {
-        gather_sector(image, out, n, k);
-        k += 1;
-    }
-    let whole = n * STORED_SIZE;
-    copy_part(image, whole, out, whole, size - whole);
-    0
+    copy_image(image, out, false)
 }
 
 // The way back: writes the image whose gathered bytes these are. A refusal changes nothing.
@@ -102,17 +90,5 @@ pub fn scatter_sectors(bytes: &[u8], out: &mut [u8]) -> u8
     ensures refusal { λ r. ⌜ r ≡ lengthsRefusal (length (now (bytes .entry))) (length (now (out .entry))) ⌝ }
     ensures written { λ r. ⌜ now (out .exit) ≡ scatterInto (now (bytes .entry)) (now (out .entry)) ⌝ }
 {
-    let size = bytes.len();
-    if out.len() != size {
-        return UNEQUAL_LENGTHS;
-    }
-    let n = sector_count(HEADER_FORMAT, size);
-    let mut k: usize = 0;
-    while k < n {
-        scatter_sector(bytes, out, n, k);
-        k += 1;
-    }
-    let whole = n * STORED_SIZE;
-    copy_part(bytes, whole, out, whole, size - whole);
-    0
+    copy_image(bytes, out, true)
 }
