@@ -22,6 +22,7 @@ ghost use Rattle.sectors.specs.Number.{beAt};
 ghost use Rattle.sectors.specs.Refusal.{beyondMending};
 ghost use Rattle.sectors.specs.Run.{readRefusal, readInto, comparisonOf};
 ghost use Rattle.sectors.specs.Sector.{sectorCount, readable};
+ghost use Rattle.tape.specs.Store.{lengthsRefusal, gatherInto, scatterInto, Restores};
 ghost use Rattle.text.specs.Charset.{charsetOf};
 ghost use Rattle.text.specs.Decode.{decodeOf, decodeInto};
 ghost use Rattle.text.specs.Fixed.{fixedBytesOf, fixedTextOf};
@@ -164,6 +165,26 @@ pub extern "C" fn scarletbook_mend(format: u32, image: &[u8], lsn: Lsn) -> Mende
     ensures comes_back { λ r. ⌜ ((g : List ℕ) → HeaderIn (OneByteChanged g) format (now (image .entry)) (lsn .0) → r ≡ mendedTo g) ⌝ }
 {
     sectors::mend::mend(format, image, lsn)
+}
+
+// Writes all heads of a format 2 image, then all data, then all tails, then the rest as it came. A refusal changes nothing.
+#[no_mangle]
+pub extern "C" fn scarletbook_gather_sectors(image: &[u8], out: &mut [u8]) -> u8
+    ensures refusal { λ r. ⌜ r ≡ lengthsRefusal (length (now (image .entry))) (length (now (out .entry))) ⌝ }
+    ensures written { λ r. ⌜ now (out .exit) ≡ gatherInto (now (image .entry)) (now (out .entry)) ⌝ }
+    ensures restored { λ r. ⌜ (r ≡ 0 → Restores scatterInto (now (image .entry)) (now (out .exit))) ⌝ }
+{
+    tape::store::gather_sectors(image, out)
+}
+
+// The way back: writes the image whose gathered bytes these are. A refusal changes nothing.
+#[no_mangle]
+pub extern "C" fn scarletbook_scatter_sectors(bytes: &[u8], out: &mut [u8]) -> u8
+    ensures refusal { λ r. ⌜ r ≡ lengthsRefusal (length (now (bytes .entry))) (length (now (out .entry))) ⌝ }
+    ensures written { λ r. ⌜ now (out .exit) ≡ scatterInto (now (bytes .entry)) (now (out .entry)) ⌝ }
+    ensures restored { λ r. ⌜ (r ≡ 0 → Restores gatherInto (now (bytes .entry)) (now (out .exit))) ⌝ }
+{
+    tape::store::scatter_sectors(bytes, out)
 }
 
 // How many bytes the string at a place has; they stand there in the table.

@@ -1,4 +1,5 @@
 -- "Headers gathered for the tape store." (02, item 13.) Assumes nothing.
+use mathlib.Core.Path.{_≡_}
 use Prim.Native.Nat.{ℕ, zero, suc, _+_, _*_}
 use mathlib.Core.Bool.{cond}
 use mathlib.Core.List.{List, [], _++_}
@@ -84,3 +85,7 @@ gatherInto image old = cond (eqb (length image) (length old)) (gathered (sectors
 
 unfoldable pub scatterInto : List ℕ → List ℕ → List ℕ
 scatterInto bytes old = cond (eqb (length bytes) (length old)) (scattered (sectorsIn bytes) bytes) old
+
+-- "The way back restores each image of any length byte for byte.": what a call of the other way then writes, into any buffer as long
+unfoldable pub Restores : (List ℕ → List ℕ → List ℕ) → List ℕ → List ℕ → Type 0
+Restores wayBack image written = (old : List ℕ) → length image ≡ length old → wayBack written old ≡ image

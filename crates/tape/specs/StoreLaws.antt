@@ -1,11 +1,12 @@
 -- Laws of the tape store: each way undoes the other. Both go by the pieces of one kind, which are `size` bytes behind `offset` in each sector.
 -- Assumes nothing.
 use Prim.Native.Nat.{ℕ, _+_, _*_, _≤_, _<_}
+use native.Mathlib.Decide.{ℕ-discrete}
 use native.Mathlib.Nat.{mul-le-mul-left, mul-le-mul-right}
 use native.Mathlib.Omega.{arith}
 use mathlib.Core.Path.{_≡_, refl, sym, ap, ap₂, _∙_}
 use mathlib.Core.List.{List, [], _++_, append-assoc, append-nil}
-use borrow.Author.Tests.{eq-eqb}
+use borrow.Author.Tests.{eq-eqb, ne-eqb}
 use lib.ListN.{length, drop, length-append, length-drop}
 use lib.Seq.{drop-at}
 use Rattle.sectors.specs.Audit.{headerFormat}
@@ -14,7 +15,7 @@ use Rattle.sectors.specs.FillLaws.{part-length, part-part}
 use Rattle.sectors.specs.Format.{sectorSize}
 use Rattle.sectors.specs.Sector.{sectorCount}
 use Rattle.sectors.specs.SectorLaws.{count-fits, raw2064-size}
-use Rattle.tape.specs.Store.{headSize, tailSize, tailOffset, rawSize, sectorsIn, blocks, pieceOf, headOf, dataOf, tailOf, gathered, pieceFrom, sectorFrom, scattered, gatherInto, scatterInto}
+use Rattle.tape.specs.Store.{headSize, tailSize, tailOffset, rawSize, sectorsIn, blocks, pieceOf, headOf, dataOf, tailOf, gathered, pieceFrom, sectorFrom, scattered, lengthsRefusal, gatherInto, scatterInto, Restores}
 use Rattle.tape.specs.BlockLaws.{part-add, part-then, part-middle, blocks-length, block-at, blocks-same, blocks-part}
 
 -- whole sectors lie in the image
@@ -211,3 +212,21 @@ module _ (x old old′ : List ℕ) (same : length x ≡ length old) (same′ : l
       let n = sectorsIn x in let e = scattered-length n x whole in
       rw (eq-eqb (length x) (length old) same, eq-eqb (length (scattered n x)) (length old′) (e ∙ same′))
       (ap (λ (m : ℕ). gathered (sectorCount headerFormat m) (scattered n x)) e ∙ gather-scattered n x whole)
+
+-- so with no refusal what is written is restored by the other call
+equal-lengths : (a b refusal : ℕ) → refusal ≡ lengthsRefusal a b → refusal ≡ 0 → a ≡ b
+unfolding lengthsRefusal
+equal-lengths a b refusal e none = go (ℕ-discrete a b)
+  where
+    go : Dec (a ≡ b) → a ≡ b
+    go (yes same) = same
+    go (no differ) = absurd (let f = rw (ne-eqb a b differ) at (sym none ∙ e) in omega arith)
+
+module _ (x old written : List ℕ) (refusal : ℕ) (refused : refusal ≡ lengthsRefusal (length x) (length old)) where
+  pub gather-restored : written ≡ gatherInto x old → refusal ≡ 0 → Restores scatterInto x written
+  unfolding Restores
+  gather-restored is none old′ same = rw is (way-back x old old′ (equal-lengths (length x) (length old) refusal refused none) same)
+
+  pub scatter-restored : written ≡ scatterInto x old → refusal ≡ 0 → Restores gatherInto x written
+  unfolding Restores
+  scatter-restored is none old′ same = rw is (way-forth x old old′ (equal-lengths (length x) (length old) refusal refused none) same)

@@ -4,7 +4,7 @@ ghost use Prim.Native.Nat.{_+_, _*_, _≤_, _<_};
 ghost use mathlib.Core.Bool.{cond};
 ghost use lib.ListN.{length};
 ghost use Rattle.sectors.specs.Fill.{part, fill};
-ghost use Rattle.tape.specs.Store.{rawSize, lengthsRefusal, gatherInto, scatterInto};
+ghost use Rattle.tape.specs.Store.{rawSize, lengthsRefusal, gatherInto, scatterInto, Restores};
 ghost use Rattle.tape.specs.Steps.{pieceCopied, sectorCopied};
 use sectors::bytes::copy_bytes;
 use sectors::header::HEADER_FORMAT;
@@ -81,6 +81,7 @@ fn copy_image(from: &[u8], to: &mut [u8], back: bool) -> u8
 pub fn gather_sectors(image: &[u8], out: &mut [u8]) -> u8
     ensures refusal { λ r. ⌜ r ≡ lengthsRefusal (length (now (image .entry))) (length (now (out .entry))) ⌝ }
     ensures written { λ r. ⌜ now (out .exit) ≡ gatherInto (now (image .entry)) (now (out .entry)) ⌝ }
+    ensures restored { λ r. ⌜ (r ≡ 0 → Restores scatterInto (now (image .entry)) (now (out .exit))) ⌝ }
 {
     copy_image(image, out, false)
 }
@@ -89,6 +90,7 @@ pub fn gather_sectors(image: &[u8], out: &mut [u8]) -> u8
 pub fn scatter_sectors(bytes: &[u8], out: &mut [u8]) -> u8
     ensures refusal { λ r. ⌜ r ≡ lengthsRefusal (length (now (bytes .entry))) (length (now (out .entry))) ⌝ }
     ensures written { λ r. ⌜ now (out .exit) ≡ scatterInto (now (bytes .entry)) (now (out .entry)) ⌝ }
+    ensures restored { λ r. ⌜ (r ≡ 0 → Restores gatherInto (now (bytes .entry)) (now (out .exit))) ⌝ }
 {
     copy_image(bytes, out, true)
 }
