@@ -96,7 +96,8 @@ enum {
     SCARLETBOOK_SET_NOT_HELD = 9,     /* a text that is there is of set 3, 4, 5 or 6 */
     SCARLETBOOK_SHORT_PAGE = 10,      /* the decoded text is longer than the page lent */
     SCARLETBOOK_NO_HEADER = 11,       /* sectors of format 0 or 1 have no header to audit or to mend */
-    SCARLETBOOK_BEYOND_MENDING = 14   /* no correct header differs from this one in at most one place */
+    SCARLETBOOK_BEYOND_MENDING = 14,  /* no correct header differs from this one in at most one place */
+    SCARLETBOOK_UNEQUAL_LENGTHS = 20  /* the two buffers are not of equal length */
 };
 
 /* The word of a refusal, as in "not Scarlet Book"; "" for a number that no refusal has. */
@@ -118,8 +119,14 @@ static inline const char *scarletbook_refusal_word(uint8_t refusal)
         "", /* 12 and 13 are no refusals */
         "",
         "beyond mending",
+        "", /* 15 to 19 are no refusals */
+        "",
+        "",
+        "",
+        "",
+        "unequal lengths",
     };
-    return refusal <= SCARLETBOOK_BEYOND_MENDING ? words[refusal] : "";
+    return refusal <= SCARLETBOOK_UNEQUAL_LENGTHS ? words[refusal] : "";
 }
 
 /* ---- Warnings: what was met in a reading that did not refuse it ---- */
@@ -622,6 +629,23 @@ scarletbook_audit_answer scarletbook_audit(uint32_t format, const uint8_t *image
  * Refused, in this order: 1; 11; 8; 14 exactly when there is no such header.
  */
 scarletbook_mended scarletbook_mend(uint32_t format, const uint8_t *image, size_t image_len, uint32_t lsn);
+
+/*
+ * Gathers an image of format 2 for a tape store. Of its whole sectors `out` gets all heads (12 bytes each), then all
+ * data (2,048), then all tails (4), each in the sectors' order; the rest of the image, shorter than a sector, stays in
+ * its place. Any bytes are such an image, of any length. Answers 0, with all of `out` written.
+ *
+ * Refused: 20 if `out` is not as long as the image; then nothing is written.
+ */
+uint8_t scarletbook_gather_sectors(const uint8_t *image, size_t image_len, uint8_t *out, size_t out_len);
+
+/*
+ * The way back: writes the image whose gathered bytes these are. Any bytes are, of just one image, so each of the two
+ * undoes the other. Answers 0, with all of `out` written.
+ *
+ * Refused: 20 if `out` is not as long as the bytes; then nothing is written.
+ */
+uint8_t scarletbook_scatter_sectors(const uint8_t *bytes, size_t bytes_len, uint8_t *out, size_t out_len);
 
 /* The fingerprint of a sector: FNV-1a, 64 bits, of its data bytes. Refused, in this order: 1; 8. */
 scarletbook_fingerprint_answer scarletbook_fingerprint(uint32_t format, const uint8_t *image,

@@ -220,6 +220,82 @@ static void headers_beyond_mending(void)
     CHECK(not_mended(3, sizeof sector, 1, SCARLETBOOK_FOREIGN_FORMAT));
 }
 
+/* Three sectors and a rest, as an image and as gathered; what is lent to be written, between bytes that stay. */
+#define STORED 2064
+#define REST 100
+#define LENT (3 * STORED + REST)
+static uint8_t stored[LENT], gathered[LENT];
+static uint8_t around[LENT + 2 * STORED];
+static uint8_t *const out = around + STORED;
+
+/* Where a byte of the image stands among the gathered ones. */
+static size_t gathered_at(size_t at)
+{
+    size_t sector = at / STORED, in = at % STORED;
+    if (sector == 3)
+        return at;
+    if (in < 12)
+        return sector * 12 + in;
+    if (in < 2060)
+        return 3 * 12 + sector * 2048 + in - 12;
+    return 3 * 2060 + sector * 4 + in - 2060;
+}
+
+static void make_gathered(void)
+{
+    size_t at;
+    for (at = 0; at < LENT; at++) {
+        stored[at] = (uint8_t)(at * 7 + at / STORED * 31);
+        gathered[gathered_at(at)] = stored[at];
+    }
+}
+
+/* Whether all but the first bytes of `out` is as it was. */
+static int stays(size_t written)
+{
+    size_t at;
+    for (at = 0; at < sizeof around; at++)
+        if (around[at] != 0xe9 && (at < STORED || at >= STORED + written))
+            return 0;
+    return 1;
+}
+
+typedef uint8_t way(const uint8_t *bytes, size_t bytes_len, uint8_t *lent, size_t lent_len);
+
+/* Whether a way gives what is expected, and changes nothing beside it. */
+static int gives(way *call, const uint8_t *bytes, const uint8_t *expected)
+{
+    memset(around, 0xe9, sizeof around);
+    return call(bytes, LENT, out, LENT) == 0 && memcmp(out, expected, LENT) == 0 && stays(LENT);
+}
+
+/* Whether a way refuses so many bytes beside so many lent ones, and changes nothing. */
+static int refuses(way *call, size_t bytes_len, size_t lent_len)
+{
+    memset(around, 0xe9, sizeof around);
+    return call(stored, bytes_len, out, lent_len) == SCARLETBOOK_UNEQUAL_LENGTHS && stays(0);
+}
+
+static void tape(void)
+{
+    way *const ways[2] = {scarletbook_gather_sectors, scarletbook_scatter_sectors};
+    size_t i;
+    make_gathered();
+    CHECK(memcmp(stored, gathered, LENT) != 0);
+    CHECK(gives(scarletbook_gather_sectors, stored, gathered));
+    CHECK(gives(scarletbook_scatter_sectors, gathered, stored));
+    for (i = 0; i < 2; i++) {
+        CHECK(refuses(ways[i], LENT, LENT + 1));
+        CHECK(refuses(ways[i], LENT, LENT - 1));
+        CHECK(refuses(ways[i], LENT, LENT - REST));
+        CHECK(refuses(ways[i], LENT - STORED, LENT));
+        CHECK(refuses(ways[i], LENT, 0));
+        CHECK(refuses(ways[i], 0, LENT));
+        CHECK(ways[i](stored, LENT, NULL, 0) == SCARLETBOOK_UNEQUAL_LENGTHS);
+        CHECK(ways[i](NULL, 0, out, 1) == SCARLETBOOK_UNEQUAL_LENGTHS && stays(0));
+    }
+}
+
 static void parts_of_tables(void)
 {
     static const uint8_t bytes[] = {1, 2, 3, 'a', 0xe9, 0};
@@ -284,6 +360,8 @@ static void no_bytes(void)
     CHECK(scarletbook_mend(SCARLETBOOK_RAW2064, NULL, 0, 0).refusal == SCARLETBOOK_NO_SUCH_ENTRY);
     CHECK(scarletbook_mend(SCARLETBOOK_PLAIN, NULL, 0, 0).refusal == SCARLETBOOK_NO_HEADER);
     CHECK(scarletbook_mend(3, NULL, 0, 0).refusal == SCARLETBOOK_FOREIGN_FORMAT);
+    CHECK(scarletbook_gather_sectors(NULL, 0, NULL, 0) == 0);
+    CHECK(scarletbook_scatter_sectors(NULL, 0, NULL, 0) == 0);
     CHECK(scarletbook_fingerprint(0, NULL, 0, 0).refusal == SCARLETBOOK_NO_SUCH_ENTRY);
     CHECK(scarletbook_digest(NULL, 0) == UINT64_C(0xcbf29ce484222325));
     CHECK(scarletbook_byte_at(NULL, 0, 0) == 0);
@@ -304,6 +382,7 @@ int main(void)
     headers();
     mended_headers();
     headers_beyond_mending();
+    tape();
     parts_of_tables();
     no_memory();
     no_bytes();

@@ -45,6 +45,7 @@ static void print_refusals(void)
     NUMBER(SHORT_PAGE);
     NUMBER(NO_HEADER);
     NUMBER(BEYOND_MENDING);
+    NUMBER(UNEQUAL_LENGTHS);
 }
 
 static void print_warnings(void)

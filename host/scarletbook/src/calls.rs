@@ -36,6 +36,18 @@ unsafe extern "C" {
     ) -> FingerprintAnswer;
     fn scarletbook_audit(format: u32, image: *const u8, image_len: usize, lsn: u32) -> AuditAnswer;
     fn scarletbook_mend(format: u32, image: *const u8, image_len: usize, lsn: u32) -> Mended;
+    fn scarletbook_gather_sectors(
+        image: *const u8,
+        image_len: usize,
+        out: *mut u8,
+        out_len: usize,
+    ) -> u8;
+    fn scarletbook_scatter_sectors(
+        bytes: *const u8,
+        bytes_len: usize,
+        out: *mut u8,
+        out_len: usize,
+    ) -> u8;
     fn scarletbook_byte_at(table: *const u8, table_len: usize, at: usize) -> u8;
     fn scarletbook_be16_at(table: *const u8, table_len: usize, at: usize) -> u16;
     fn scarletbook_be32_at(table: *const u8, table_len: usize, at: usize) -> u32;
@@ -230,6 +242,21 @@ pub fn audit(format: impl Into<u32>, image: &[u8], lsn: u32) -> AuditAnswer {
 pub fn mend(format: impl Into<u32>, image: &[u8], lsn: u32) -> Mended {
     // SAFETY: the pointer and length are those of a slice.
     unsafe { scarletbook_mend(format.into(), image.as_ptr(), image.len(), lsn) }
+}
+
+/// Gathers an image of format 2: writes into `out` the heads of its whole sectors (12 bytes each),
+/// then their data (2,048), then their tails (4), then the rest as it came, and returns 0. Refused,
+/// with `out` left as it was: 20 when it is not as long as the image.
+pub fn gather_sectors(image: &[u8], out: &mut [u8]) -> u8 {
+    // SAFETY: both pointers and lengths are those of slices; `out` overlaps nothing.
+    unsafe { scarletbook_gather_sectors(image.as_ptr(), image.len(), out.as_mut_ptr(), out.len()) }
+}
+
+/// The way back: writes into `out` the image whose gathered bytes these are, and returns 0. Refused,
+/// with `out` left as it was: 20 when it is not as long as the bytes.
+pub fn scatter_sectors(bytes: &[u8], out: &mut [u8]) -> u8 {
+    // SAFETY: both pointers and lengths are those of slices; `out` overlaps nothing.
+    unsafe { scarletbook_scatter_sectors(bytes.as_ptr(), bytes.len(), out.as_mut_ptr(), out.len()) }
 }
 
 /// The byte at `at`; 0 past the end.

@@ -36,6 +36,7 @@ pub mod record;
 mod refusal;
 mod sector;
 mod table;
+mod tape;
 mod warning;
 
 pub use area::{Area, Track};
@@ -44,6 +45,7 @@ pub use item::{AreaTextItem, DiscTextItem, TrackTextItem};
 pub use refusal::{Refusal, Refused};
 pub use sector::{Header, SectorFormat, audit, digest, fingerprint, mend};
 pub use table::{Items, Table, TextItem};
+pub use tape::{gather, scatter};
 pub use warning::{Warning, WarningCode};
 
 /// The exported functions of the library over slices, with its records: each takes any slices and

@@ -31,11 +31,13 @@ pub enum Refusal {
     NoHeader = 11,
     /// No correct header differs from this one in at most one place.
     BeyondMending = 14,
+    /// The two buffers are not of equal length.
+    UnequalLengths = 20,
 }
 
 impl Refusal {
     /// Every refusal, by number.
-    pub const ALL: [Refusal; 12] = [
+    pub const ALL: [Refusal; 13] = [
         Refusal::ForeignFormat,
         Refusal::ShortBuffer,
         Refusal::CutMaster,
@@ -48,9 +50,10 @@ impl Refusal {
         Refusal::ShortPage,
         Refusal::NoHeader,
         Refusal::BeyondMending,
+        Refusal::UnequalLengths,
     ];
 
-    /// Its number, 1 to 11 or 14.
+    /// Its number, 1 to 11, 14 or 20.
     pub fn number(self) -> u8 {
         self as u8
     }
@@ -70,6 +73,7 @@ impl Refusal {
             Refusal::ShortPage => "short page",
             Refusal::NoHeader => "no header",
             Refusal::BeyondMending => "beyond mending",
+            Refusal::UnequalLengths => "unequal lengths",
         }
     }
 

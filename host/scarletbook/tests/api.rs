@@ -296,14 +296,15 @@ fn numbers_and_words_of_refusals() {
         "short page",
         "no header",
         "beyond mending",
+        "unequal lengths",
     ];
     assert_eq!(Refusal::ALL.map(Refusal::word), words);
-    // 12 and 13 are no refusals.
-    for (refusal, number) in Refusal::ALL.into_iter().zip((1..12).chain([14])) {
+    // 12, 13 and 15 to 19 are no refusals.
+    for (refusal, number) in Refusal::ALL.into_iter().zip((1..12).chain([14, 20])) {
         assert_eq!((refusal.number(), Refusal::of_number(number)), (number, Some(refusal)));
         assert_eq!(refusal.to_string(), format!("refused {number}: {}", refusal.word()));
     }
-    assert_eq!([0, 12, 13, 15, 255].map(Refusal::of_number), [None; 5]);
+    assert_eq!([0, 12, 13, 15, 19, 21, 255].map(Refusal::of_number), [None; 7]);
 }
 
 #[test]
