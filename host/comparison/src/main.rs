@@ -28,6 +28,7 @@ mod shapes;
 mod strings;
 mod tables;
 mod tally;
+mod tape;
 mod texts;
 mod threads;
 mod times;
@@ -75,7 +76,8 @@ fn all(options: &Options) -> Vec<Kind> {
     let numbers = [product, digest, byte, be16, be32];
     let texts = [string_bytes, charset, decode, fixed_bytes, fixed_text, language];
     let times = [times.frame_number, times.cap];
-    let sectors = sectors.into_iter().chain(headers(options));
+    let tape = tape::kinds(options.seed, options.tapes);
+    let sectors = sectors.into_iter().chain(headers(options)).chain(tape);
     let below = sectors.chain(numbers).chain(texts).chain(times);
     let areas = areas(options).into_iter().chain([layouts::kind()]);
     below.chain(areas).chain(disc::kinds(options.seed, options.count)).collect()
@@ -136,11 +138,15 @@ fn areas(options: &Options) -> Vec<Kind> {
 
 /// Says what is compared, and compares it.
 fn run(options: &Options) -> io::Result<Vec<Kind>> {
-    let Options { seed, cases, texts, tables, count, cuts, .. } = *options;
+    let Options { seed, cases, tapes, texts, tables, count, cuts, .. } = *options;
     match options.mode {
         Mode::All => {
             println!("seed {seed}, {cases} images, {texts} texts, {tables} tables, {count} discs");
             Ok(all(options))
+        }
+        Mode::Tape => {
+            println!("seed {seed}, {tapes} longer images");
+            Ok(tape::kinds(seed, tapes))
         }
         Mode::Discs => {
             println!("seed {seed}, {count} discs");

@@ -1,7 +1,8 @@
 //! What the command line asks for.
 
 pub const USAGE: &str = "usage: host/compare [--short] [--seed N] [--count N] [--cases N] \
-    [--headers N] [--texts N] [--tables N] [--exact]
+    [--headers N] [--tapes N] [--texts N] [--tables N] [--exact]
+       host/compare tape [--short] [--seed N] [--tapes N]
        host/compare discs [--seed N] [--count N]
        host/compare command [--seed N] [--count N]
        host/compare noise [--seed N] [--count N]
@@ -11,6 +12,8 @@ pub const USAGE: &str = "usage: host/compare [--short] [--seed N] [--count N] [-
 pub enum Mode {
     /// Numbers, texts, lone tables and discs.
     All,
+    /// Gathering for the tape store alone.
+    Tape,
     /// Discs alone.
     Discs,
     /// The command `tables --dump` over discs in files.
@@ -31,6 +34,8 @@ pub struct Options {
     pub cases: u64,
     /// Headers for the audit, at least, and as many for mending.
     pub headers: u64,
+    /// Longer images for the tape store, beside the shorter ones.
+    pub tapes: u64,
     /// Random strings, as many texts to decode, and as many fields, draws and times.
     pub texts: u64,
     /// Random lone tables, beside those at the edges.
@@ -47,6 +52,7 @@ const FULL: Options = Options {
     count: 100_000,
     cases: 20_000,
     headers: 1_000_000,
+    tapes: 1_000,
     texts: 100_000,
     tables: 60_000,
     cuts: 1_100,
@@ -57,6 +63,7 @@ const SHORT: Options = Options {
     count: 2_000,
     cases: 2_000,
     headers: 20_000,
+    tapes: 50,
     texts: 5_000,
     tables: 1_500,
     cuts: 60,
@@ -81,6 +88,7 @@ pub fn options(words: impl Iterator<Item = String>) -> Option<Options> {
             "--count" => options.count = words.next()?.parse().ok()?,
             "--cases" => options.cases = words.next()?.parse().ok()?,
             "--headers" => options.headers = words.next()?.parse().ok()?,
+            "--tapes" => options.tapes = words.next()?.parse().ok()?,
             "--texts" => options.texts = words.next()?.parse().ok()?,
             "--tables" => options.tables = words.next()?.parse().ok()?,
             "--cuts" => options.cuts = words.next()?.parse().ok()?,
@@ -101,6 +109,7 @@ fn value_of<'a>(words: &'a [String], name: &str) -> Option<&'a String> {
 
 fn mode(name: &str) -> Option<Mode> {
     match name {
+        "tape" => Some(Mode::Tape),
         "discs" => Some(Mode::Discs),
         "command" => Some(Mode::Command),
         "noise" => Some(Mode::Noise),

@@ -117,6 +117,7 @@ fn refusal_class(refusal: u8) -> &'static str {
         10 => "refusal 10",
         11 => "refusal 11",
         14 => "refusal 14",
+        20 => "refusal 20",
         _ => "another refusal",
     }
 }

@@ -1,5 +1,6 @@
 //! A deterministic generator of images, of discs, of area tables, of texts and of questions about
-//! them: the same seed gives the same cases everywhere. `plain` walks over a table by the document.
+//! them: the same seed gives the same cases everywhere. `plain` walks over a table by the document, and
+//! `tape` gathers an image.
 
 pub mod disc;
 pub mod header;
@@ -10,6 +11,7 @@ pub mod plain;
 pub mod question;
 mod rng;
 pub mod table;
+pub mod tape;
 pub mod text;
 
 pub use rng::Rng;

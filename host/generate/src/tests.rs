@@ -7,6 +7,7 @@ use crate::image::{CONTENTS, Image, any_image};
 use crate::layout::{DATA, layout};
 use crate::noise::{Pool, any_noise};
 use crate::question::{any_byte_count, any_place, any_run, any_table};
+use crate::tape::{gathered, scattered};
 use crate::text::{self, any_field, any_page_length, any_string, any_text, utf8_length};
 
 fn images(seed: u64, cases: u64) -> impl Iterator<Item = Image> {
@@ -182,6 +183,29 @@ fn a_double_change_is_mended_to_another_header_or_not_at_all() {
     let found: Vec<_> = changes.iter().filter_map(|&changed| mended(changed)).collect();
     assert!(found.iter().all(|&found| is_multiple(found) && differing(found) == 3));
     assert!((1..200).contains(&found.len()), "{} of 2000", found.len());
+}
+
+#[test]
+fn two_sectors_and_a_rest_are_gathered_and_scattered() {
+    let sector = |head, data, tail| [vec![head; 12], vec![data; 2048], vec![tail; 4]].concat();
+    let image = [sector(1, 2, 3), sector(4, 5, 6), vec![7; 9]].concat();
+    let heads = [[1; 12], [4; 12]].concat();
+    let data = [[2; 2048], [5; 2048]].concat();
+    let tails = [[3; 4], [6; 4]].concat();
+    let bytes = [heads, data, tails, vec![7; 9]].concat();
+    assert!(gathered(&image) == bytes && scattered(&bytes) == image);
+}
+
+#[test]
+fn gathering_and_scattering_undo_each_other() {
+    let mut rng = Rng::new(5);
+    for length in [0, 1, 2063, 2064, 2065, 4127, 4128, 4129, 9000] {
+        let mut bytes = vec![0; length];
+        rng.fill(&mut bytes);
+        assert!(scattered(&gathered(&bytes)) == bytes, "{length}");
+        assert!(gathered(&scattered(&bytes)) == bytes, "{length}");
+        assert_eq!(gathered(&bytes) == bytes, length < 4128, "{length}");
+    }
 }
 
 #[test]
