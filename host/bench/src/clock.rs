@@ -2,8 +2,9 @@
 
 use std::time::Instant;
 
-/// Rounds in each place.
-const ROUNDS: usize = 1000;
+/// Rounds in each place: so many, or as many as take so many nanoseconds of each of the two.
+const ROUNDS: f64 = 1000.0;
+const PLACE_NS: f64 = 2e9;
 /// A round calls its function often enough to take so many nanoseconds.
 const ROUND_NS: f64 = 20_000.0;
 
@@ -30,7 +31,8 @@ impl Row {
         for place in places {
             let once = time(1, place, &other).max(1.0);
             let calls = (ROUND_NS / once).ceil() as usize;
-            for _ in 0..ROUNDS {
+            let rounds = (PLACE_NS / once).min(ROUNDS).ceil() as usize;
+            for _ in 0..rounds {
                 ours = ours.min(time(calls, place, &library));
                 theirs = theirs.min(time(calls, place, &other));
             }

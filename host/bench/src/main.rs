@@ -8,6 +8,7 @@ mod audit;
 mod clock;
 mod disc;
 mod mend;
+mod tape;
 mod text;
 
 use clock::Row;
@@ -154,6 +155,7 @@ fn main() {
     fingerprints();
     audit::headers();
     mend::headers();
+    tape::gathering();
     text::decoding();
     text::strings();
     area::tables();
