@@ -15,3 +15,5 @@ pub mod reading;
 pub mod report;
 pub mod sample;
 pub mod sectors;
+#[allow(unsafe_code)]
+pub mod signals;

@@ -12,11 +12,12 @@ use tables::commands::{Form, Task};
 use tables::dump::dump_reading;
 use tables::json::json;
 use tables::listing::{listing, printable};
-use tables::map::{Map, report_faults};
+use tables::map::Map;
 use tables::reading::Reading;
 use tables::report::{ERASE, Report, StandardReport, write_error};
 use tables::sample;
 use tables::sectors::Sectors;
+use tables::signals::report_faults;
 
 /// Names the file that the sample disc is written to.
 const SAMPLE: &str = "TABLES_SAMPLE";
