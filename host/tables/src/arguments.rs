@@ -18,7 +18,8 @@ pub struct Arguments {
     pub task: Task,
     /// Any number; the library refuses foreign ones.
     pub format: Option<u32>,
-    pub image: Option<PathBuf>,
+    /// Those that the command takes; none if the sample disc is to stand in.
+    pub files: Vec<PathBuf>,
 }
 
 /// What is wrong with the arguments, and of which command.
@@ -54,7 +55,7 @@ impl Request {
 impl Arguments {
     /// The arguments of a command, or what is wrong with them.
     fn parse(command: &'static Command, arguments: Vec<OsString>) -> Result<Self, String> {
-        let mut parsed = Arguments { command, task: command.task, format: None, image: None };
+        let mut parsed = Arguments { command, task: command.task, format: None, files: vec![] };
         let mut rest = arguments.into_iter();
         let mut options = true;
         while let Some(argument) = rest.next() {
@@ -66,9 +67,10 @@ impl Arguments {
                 Some(word) if options && Command::of_word(word).is_some() => {
                     return Err(format!("{word} is a command, and stands first; a file: ./{word}"));
                 }
-                _ => parsed.set_image(argument)?,
+                _ => parsed.add_file(argument)?,
             }
         }
+        parsed.check_files()?;
         Ok(parsed)
     }
 
@@ -112,15 +114,28 @@ impl Arguments {
         }
     }
 
-    fn set_image(&mut self, image: OsString) -> Result<(), String> {
-        match &self.image {
-            None => self.image = Some(image.into()),
-            Some(first) => {
-                let (first, second) = (first.display(), image.display());
-                return Err(format!("only one image, not {first} and {second}"));
+    fn add_file(&mut self, file: OsString) -> Result<(), String> {
+        let names = self.command.files;
+        match &self.files[..] {
+            files if files.len() < names.len() => {
+                self.files.push(file.into());
+                Ok(())
             }
+            [first] => {
+                Err(format!("only one image, not {} and {}", first.display(), file.display()))
+            }
+            _ => Err(format!("only {}, not {} too", names.join(" and "), file.display())),
         }
-        Ok(())
+    }
+
+    /// What is wrong if one of two files is missing, or both are.
+    fn check_files(&self) -> Result<(), String> {
+        let missing = &self.command.files[self.files.len()..];
+        if self.command.files.len() < 2 || missing.is_empty() {
+            return Ok(());
+        }
+        let missing: Vec<_> = missing.iter().map(|name| format!("no {name}")).collect();
+        Err(missing.join(" and "))
     }
 }
 
@@ -140,7 +155,6 @@ fn check_option(command: &Command, option: &str) -> Result<(), String> {
 mod tests {
     use super::*;
     use crate::commands::COMMANDS;
-    use std::path::Path;
 
     const LISTED: Task = Task::List(Form::Listing);
 
@@ -148,11 +162,11 @@ mod tests {
         Request::parse(line.split_whitespace().map(OsString::from))
     }
 
-    /// A run over an image; over none if that is empty.
-    fn run(task: Task, format: Option<u32>, image: &str) -> Result<Request, Wrong> {
+    /// A run over files, with blanks between their names.
+    fn run(task: Task, format: Option<u32>, files: &str) -> Result<Request, Wrong> {
         let command = COMMANDS.iter().find(|command| command.task == task).unwrap_or(&LISTING);
-        let image = Some(image.into()).filter(|image| image != Path::new(""));
-        Ok(Request::Run(Arguments { command, task, format, image }))
+        let files = files.split_whitespace().map(PathBuf::from).collect();
+        Ok(Request::Run(Arguments { command, task, format, files }))
     }
 
     #[test]

@@ -24,6 +24,9 @@ pub struct Command {
     pub task: Task,
     /// The options that it takes, but for `--help`.
     pub options: &'static [&'static str],
+    /// The files that it takes, by their names in the help. If there is one, the sample disc can stand
+    /// in for it; of two, both must be given.
+    pub files: &'static [&'static str],
     /// How it is used, a blank line, and more about it.
     pub help: &'static str,
 }
@@ -33,6 +36,7 @@ pub const LISTING: Command = Command {
     word: "tables",
     task: Task::List(Form::Listing),
     options: &["--dump", "--json", "--format"],
+    files: &["IMAGE"],
     help: include_str!("../help/tables.txt"),
 };
 
@@ -41,12 +45,14 @@ pub const COMMANDS: [Command; 2] = [
         word: "audit",
         task: Task::Audit,
         options: &["--format"],
+        files: &["IMAGE"],
         help: include_str!("../help/audit.txt"),
     },
     Command {
         word: "fingerprints",
         task: Task::Fingerprints,
         options: &["--format"],
+        files: &["IMAGE"],
         help: include_str!("../help/fingerprints.txt"),
     },
 ];

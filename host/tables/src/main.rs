@@ -96,7 +96,7 @@ impl Answer {
 
 /// The exit status for an image that could be read.
 fn run(arguments: &Arguments) -> Result<u8, Failure> {
-    let path = match &arguments.image {
+    let path = match arguments.files.first() {
         Some(path) => path.clone(),
         None => make_sample(arguments)?,
     };
