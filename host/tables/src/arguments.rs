@@ -195,6 +195,30 @@ mod tests {
     }
 
     #[test]
+    fn a_command_of_two_files_has_both() {
+        assert_eq!(parse("gather a b"), run(Task::Gather, None, "a b"));
+        assert_eq!(parse("scatter b a"), run(Task::Scatter, None, "b a"));
+        assert_eq!(parse("gather ./gather a"), run(Task::Gather, None, "./gather a"));
+        assert_eq!(parse("gather -- -a gather"), run(Task::Gather, None, "-a gather"));
+        assert_eq!(parse("scatter a -- --help"), run(Task::Scatter, None, "a --help"));
+        for (command, names) in [(&COMMANDS[2], "IMAGE"), (&COMMANDS[3], "GATHERED")] {
+            let word = command.word;
+            let wrong = |line: &str, why: String| {
+                check_wrong(command, &[(&format!("{word} {line}"), &why)]);
+            };
+            wrong("", format!("no {names} and no OUT"));
+            wrong("--", format!("no {names} and no OUT"));
+            wrong("a", "no OUT".to_owned());
+            wrong("a b c", format!("only {names} and OUT, not c too"));
+            wrong("a b -- -c d", format!("only {names} and OUT, not -c too"));
+            wrong("--format 2 a b", format!("{word} has no option --format"));
+            wrong("a b --force", format!("{word} has no option --force"));
+            wrong("a -", format!("{word} has no option -"));
+            wrong("a scatter", "scatter is a command, and stands first; a file: ./scatter".into());
+        }
+    }
+
+    #[test]
     fn every_option_of_a_command_is_taken() {
         for command in COMMANDS.iter().chain([&LISTING]) {
             let word = if command == &LISTING { "" } else { command.word };

@@ -7,6 +7,8 @@ pub enum Task {
     List(Form),
     Audit,
     Fingerprints,
+    Gather,
+    Scatter,
 }
 
 /// How a disc is presented.
@@ -40,7 +42,7 @@ pub const LISTING: Command = Command {
     help: include_str!("../help/tables.txt"),
 };
 
-pub const COMMANDS: [Command; 2] = [
+pub const COMMANDS: [Command; 4] = [
     Command {
         word: "audit",
         task: Task::Audit,
@@ -54,6 +56,20 @@ pub const COMMANDS: [Command; 2] = [
         options: &["--format"],
         files: &["IMAGE"],
         help: include_str!("../help/fingerprints.txt"),
+    },
+    Command {
+        word: "gather",
+        task: Task::Gather,
+        options: &[],
+        files: &["IMAGE", "OUT"],
+        help: include_str!("../help/gather.txt"),
+    },
+    Command {
+        word: "scatter",
+        task: Task::Scatter,
+        options: &[],
+        files: &["GATHERED", "OUT"],
+        help: include_str!("../help/scatter.txt"),
     },
 ];
 

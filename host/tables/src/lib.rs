@@ -1,5 +1,6 @@
 //! Presents what the library reads of an SACD image: the dump, the JSON, the listing, and lines about
-//! every sector. Every value comes from a call of the library; presentation alone is here.
+//! every sector; and writes what it gathers and scatters to a new file. Every value comes from a call of
+//! the library; presentation and files alone are here.
 
 #![deny(unsafe_code)]
 
@@ -17,3 +18,4 @@ pub mod sample;
 pub mod sectors;
 #[allow(unsafe_code)]
 pub mod signals;
+pub mod tape;

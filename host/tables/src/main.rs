@@ -2,7 +2,7 @@
 
 #![deny(unsafe_code)]
 
-use scarletbook::{Disc, Refusal, SectorFormat};
+use scarletbook::{Disc, Refusal, SectorFormat, gather, scatter};
 use std::fs;
 use std::io::{self, ErrorKind, IsTerminal, Write};
 use std::path::{Path, PathBuf};
@@ -18,11 +18,16 @@ use tables::report::{ERASE, Report, StandardReport, write_error};
 use tables::sample;
 use tables::sectors::Sectors;
 use tables::signals::report_faults;
+use tables::tape;
 
 /// Names the file that the sample disc is written to.
 const SAMPLE: &str = "TABLES_SAMPLE";
 /// The release; `./tables` has the commit too.
 const VERSION: &str = concat!("tables ", env!("CARGO_PKG_VERSION"), "\n");
+/// Why a byte of a mapped file fails.
+const UNREADABLE: &str = "cannot be read: a read error, or the file became shorter";
+const UNWRITABLE: &str =
+    "cannot be written: the disk is full, a write error, or the file became shorter";
 
 /// What was found.
 enum Answer {
@@ -94,30 +99,52 @@ impl Answer {
     }
 }
 
-/// The exit status for an image that could be read.
+/// The exit status if nothing keeps the command from an answer.
 fn run(arguments: &Arguments) -> Result<u8, Failure> {
+    match arguments.task {
+        Task::List(form) => read(arguments, |format, map| list(form, format, map)),
+        Task::Audit => read(arguments, |format, map| each_sector(format, map, audit)),
+        Task::Fingerprints => read(arguments, |format, map| each_sector(format, map, fingerprints)),
+        Task::Gather => rewrite(arguments, gather),
+        Task::Scatter => rewrite(arguments, scatter),
+    }
+}
+
+/// Presents an image, or the sample disc, in the format that was given or is found.
+fn read(
+    arguments: &Arguments,
+    present: impl FnOnce(Result<u32, Refusal>, &Map) -> Result<Answer, Failure>,
+) -> Result<u8, Failure> {
     let path = match arguments.files.first() {
         Some(path) => path.clone(),
         None => make_sample(arguments)?,
     };
-    let map = Map::open(&path).map_err(|error| Failure::File(path.clone(), error))?;
-    report_faults(fault(&path));
-    let answer = answer(arguments, &map)?;
+    let map = open(&path)?;
+    let detected = || SectorFormat::detect(map.bytes()).map(SectorFormat::number);
+    let answer = present(arguments.format.map_or_else(detected, Ok), &map)?;
     answer.tell(&path);
     Ok(answer.status())
 }
 
-fn answer(arguments: &Arguments, map: &Map) -> Result<Answer, Failure> {
-    let detected = || SectorFormat::detect(map.bytes()).map(SectorFormat::number);
-    let format = arguments.format.map_or_else(detected, Ok);
-    match arguments.task {
-        Task::List(form) => list(form, format.unwrap_or(SectorFormat::Plain.number()), map),
-        Task::Audit => each_sector(format, map, audit),
-        Task::Fingerprints => each_sector(format, map, fingerprints),
-    }
+/// Writes a new file of what a call gives for the bytes of another.
+fn rewrite(arguments: &Arguments, call: tape::Call) -> Result<u8, Failure> {
+    let [from, out] = &arguments.files[..] else {
+        unreachable!("both files are there, or the arguments are wrong");
+    };
+    let map = open(from)?;
+    let written = tape::write(&map, out, call, fault(out, UNWRITABLE));
+    written.map_err(|error| Failure::File(out.clone(), error))?;
+    Ok(0)
 }
 
-fn list(form: Form, format: u32, map: &Map) -> Result<Answer, Failure> {
+fn open(path: &Path) -> Result<Map, Failure> {
+    let map = Map::open(path).map_err(|error| Failure::File(path.to_owned(), error))?;
+    report_faults(fault(path, UNREADABLE));
+    Ok(map)
+}
+
+fn list(form: Form, format: Result<u32, Refusal>, map: &Map) -> Result<Answer, Failure> {
+    let format = format.unwrap_or(SectorFormat::Plain.number());
     let read = Disc::read(format, map.bytes());
     let reading = Reading::new(format, map.bytes(), &read);
     let text = match form {
@@ -184,10 +211,9 @@ fn print(text: &str) -> Result<(), Failure> {
     out.write_all(text.as_bytes()).and_then(|()| out.flush()).map_err(Failure::Output)
 }
 
-/// The line for a byte of the image that cannot be read.
-fn fault(path: &Path) -> String {
+/// The line for a byte of a mapped file that cannot be read or written.
+fn fault(path: &Path, why: &str) -> String {
     let erase = if io::stderr().is_terminal() { ERASE } else { "" };
-    let why = "cannot be read: a read error, or the file became shorter";
     format!("{erase}tables: {}: {why}\n", name(path))
 }
 

@@ -164,10 +164,14 @@ impl MapMut {
     }
 }
 
-/// The bytes that this user may still write to the file system that a folder is in.
+/// The bytes that this user may still write to the file system of a folder: any number if that does not
+/// tell its size.
 pub fn free_space(folder: &Path) -> io::Result<u64> {
     let folder = CString::new(folder.as_os_str().as_bytes())?;
     let file_system = file_system(&folder)?;
+    if file_system.blocks == 0 {
+        return Ok(u64::MAX);
+    }
     Ok(file_system.available.saturating_mul(file_system.fragment))
 }
 
@@ -179,4 +183,18 @@ fn file_system(path: &CStr) -> io::Result<FileSystem> {
     }
     // SAFETY: the call has succeeded, and so has written it; any numbers may stand there.
     Ok(unsafe { answer.assume_init() })
+}
+
+#[cfg(test)]
+mod tests {
+    use super::*;
+
+    #[test]
+    fn free_space_is_told_if_the_file_system_has_a_size() {
+        let free = free_space(Path::new(".")).expect("it is there");
+        assert!(free > 0 && free < 1 << 60, "{free}");
+        assert_eq!(free_space(Path::new("/proc")).ok(), Some(u64::MAX));
+        let absent = free_space(Path::new("/proc/absent")).map_err(|error| error.kind());
+        assert_eq!(absent, Err(io::ErrorKind::NotFound));
+    }
 }

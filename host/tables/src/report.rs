@@ -8,7 +8,7 @@ use std::os::unix::fs::FileTypeExt;
 use std::time::{Duration, Instant};
 
 /// The least time between two updates.
-const PAUSE: Duration = Duration::from_millis(250);
+pub const PAUSE: Duration = Duration::from_millis(250);
 /// Takes the cursor to the line's start and clears the line.
 pub const ERASE: &str = "\r\x1b[K";
 
@@ -27,10 +27,9 @@ impl StandardReport {
     /// Lines on standard output. The percentage is on standard error if that is a terminal, and none
     /// where the lines are piped to another program, which may use the same terminal.
     pub fn to_standard_output() -> Self {
-        let (out, error) = (io::stdout(), io::stderr());
+        let out = io::stdout();
         let shared = out.is_terminal();
-        let seen = error.is_terminal() && !is_piped(&out);
-        let progress = seen.then(|| Progress { error, next: Instant::now() + PAUSE, shown: false });
+        let progress = Progress::on_standard_error().filter(|_| !is_piped(&out));
         Report { out: BufWriter::with_capacity(1 << 16, out.lock()), progress, shared }
     }
 }
@@ -56,7 +55,7 @@ impl<W: Write, E: Write> Report<W, E> {
             if self.shared {
                 self.out.flush()?;
             }
-            progress.show(done as u128 * 100 / all as u128);
+            progress.show_percentage(done as u64, all as u64);
         }
         Ok(())
     }
@@ -69,16 +68,35 @@ impl<W: Write, E: Write> Report<W, E> {
 }
 
 /// A percentage on a terminal, cleared when it is dropped. No one can be told if writing it fails.
-struct Progress<E: Write> {
+pub struct Progress<E: Write> {
     error: E,
     /// When it may be shown again.
     next: Instant,
     shown: bool,
 }
 
+impl Progress<Stderr> {
+    /// On standard error, if that is a terminal.
+    pub fn on_standard_error() -> Option<Self> {
+        let error = io::stderr();
+        error.is_terminal().then(|| Progress::new(error, Instant::now() + PAUSE))
+    }
+}
+
 impl<E: Write> Progress<E> {
-    fn show(&mut self, percent: u128) {
-        let _ = write!(self.error, "\r{percent:3} %").and_then(|()| self.error.flush());
+    pub(crate) fn new(error: E, next: Instant) -> Self {
+        Progress { error, next, shown: false }
+    }
+
+    /// So much of all is done; more than all is shown as all, and nothing of nothing as nothing.
+    pub fn show_percentage(&mut self, done: u64, all: u64) {
+        let percent = (u128::from(done) * 100 / u128::from(all.max(1))).min(100);
+        self.show(format_args!("{percent:3} %"));
+    }
+
+    /// Shows a text, no shorter than the one before.
+    pub fn show(&mut self, text: Arguments) {
+        let _ = write!(self.error, "\r{text}").and_then(|()| self.error.flush());
         self.next = Instant::now() + PAUSE;
         self.shown = true;
     }
@@ -133,7 +151,7 @@ mod tests {
         let (lines, errors) = (RefCell::default(), RefCell::default());
         let out = BufWriter::new(Terminal(&lines));
         let error = Terminal(if shared { &lines } else { &errors });
-        let progress = Progress { error, next: Instant::now(), shown: false };
+        let progress = Progress::new(error, Instant::now());
         let mut report = Report { out, progress: Some(progress), shared };
         tell(&mut report).and_then(|()| report.end()).expect("a terminal takes it");
         (lines.into_inner(), errors.into_inner())
