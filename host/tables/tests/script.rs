@@ -303,6 +303,8 @@ fn help_needs_no_build() {
         ("tables.txt", &["--help", "-h", "IMAGE --help", "--what -h", "./audit --help"][..]),
         ("audit.txt", &["audit --help", "audit IMAGE -h", "audit --what --help --version"]),
         ("fingerprints.txt", &["fingerprints --help", "fingerprints a b --help"]),
+        ("gather.txt", &["gather --help", "gather a b -h"]),
+        ("scatter.txt", &["scatter --help", "scatter a --help"]),
     ] {
         let help = help(name).expect("it is there");
         for line in lines {

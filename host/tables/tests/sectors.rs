@@ -2,10 +2,12 @@
 
 mod common;
 
-use common::{BLANK, MENDABLE, Ran, SECTOR, SOUND, Scratch, UNSOUND, command, ran, run, stored};
+use common::{
+    BLANK, MENDABLE, Ran, SECTOR, SOUND, Scratch, UNSOUND, command, on_terminal, ran, run, stored,
+};
 use std::fs::File;
 use std::io::{BufRead, BufReader, Read};
-use std::process::{Child, Command, Output, Stdio};
+use std::process::{Child, Stdio};
 use std::sync::atomic::{AtomicUsize, Ordering};
 use tables::sample;
 
@@ -222,18 +224,6 @@ fn a_file_that_becomes_shorter_is_an_error() {
 
 /// A percentage that is cleared again.
 const CLEARED: &str = " %\r\u{1b}[K";
-
-/// What a line of commands shows on a terminal; nothing without the command `script`.
-fn script(line: &str) -> Option<Output> {
-    Command::new("script").args(["-qec", line, "/dev/null"]).output().ok()
-}
-
-/// What the command shows on a terminal. Nothing where there can be none.
-fn on_terminal(arguments: &str) -> Option<String> {
-    script("true").filter(|output| output.status.success())?;
-    let line = format!("'{}' {arguments}", command().get_program().display());
-    Some(String::from_utf8(script(&line)?.stdout).expect("a terminal gets UTF-8"))
-}
 
 #[test]
 fn progress_is_shown_on_a_terminal_and_cleared() {

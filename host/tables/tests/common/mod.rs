@@ -103,6 +103,18 @@ pub fn ran(status: i32, out: &str, error: &str) -> Ran {
     Ran { status: Some(status), out: out.to_owned(), error: error.to_owned() }
 }
 
+/// What a line of commands shows on a terminal; nothing without the command `script`.
+fn script(line: &str) -> Option<Output> {
+    Command::new("script").args(["-qec", line, "/dev/null"]).output().ok()
+}
+
+/// What the command shows on a terminal. Nothing where there can be none.
+pub fn on_terminal(arguments: &str) -> Option<String> {
+    script("true").filter(|output| output.status.success())?;
+    let line = format!("'{}' {arguments}", command().get_program().display());
+    Some(String::from_utf8(script(&line)?.stdout).expect("a terminal gets UTF-8"))
+}
+
 /// An image of format 0 in another one, each header in it the one given.
 pub fn stored(format: u32, image: &[u8], header: [u8; 6]) -> Vec<u8> {
     let (before, behind) = [(0, 0), (6, 0), (12, 4)][format as usize];
