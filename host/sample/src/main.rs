@@ -1,6 +1,7 @@
 //! Stores tables and discs, and what the customer's Rust answers to them, for the programs `replay`,
 //! `stored_tables` and `stored_discs`, which need no Rust; and a table with its items by the plain
-//! walk, for `draws`. `--check` asks the Rust again about what is stored, and walks again.
+//! walk, for `draws`; and images with what the plain gathering gives of them, for `stored_images`.
+//! `--check` asks the Rust again about what is stored, and walks and gathers again.
 //!
 //! Exit status: 0 all is written, or is what must be stored; 1 something else is stored; 2 bad
 //! usage, a file that cannot be read or written, or a walk whose items are not the Rust's texts.
@@ -10,6 +11,7 @@ mod draws;
 mod listing;
 mod named;
 mod runs;
+mod tape;
 
 use generate::Rng;
 use generate::table::any_table;
@@ -36,6 +38,9 @@ const DISC_ANSWERS: &str = "stored_discs/stdout";
 /// The table whose items are drawn, and the draws.
 const DRAWN: &str = "draws/stdin";
 const DRAWS: &str = "draws/stdout";
+/// The images that are gathered and scattered, and what is printed of them.
+const IMAGES: &str = "stored_images/stdin";
+const IMAGE_LINES: &str = "stored_images/stdout";
 
 /// Tables at random that are stored in few bytes.
 fn random() -> impl Iterator<Item = Vec<u8>> {
@@ -93,10 +98,17 @@ fn table_and_draws() -> Result<[(&'static str, Vec<u8>); 2]> {
     Ok([(DRAWN, table), (DRAWS, draws)])
 }
 
+/// The images that are gathered and scattered, and what is printed of them, each with its file.
+fn images_and_lines() -> [(&'static str, Vec<u8>); 2] {
+    let images = tape::images();
+    let lines: String = images.iter().map(|image| tape::lines(image)).collect();
+    [(IMAGES, images.concat()), (IMAGE_LINES, lines.into_bytes())]
+}
+
 /// The files that `--check` looks at, and what must be stored there.
 fn checked(crates: &Path) -> Result<impl Iterator<Item = (&'static str, Vec<u8>)>> {
     let answers = answers(crates)?.map(|(file, answers)| (file, answers.into_bytes()));
-    Ok(answers.into_iter().chain(table_and_draws()?))
+    Ok(answers.into_iter().chain(table_and_draws()?).chain(images_and_lines()))
 }
 
 /// A table's name, on a line, and its listing.
@@ -108,6 +120,7 @@ fn write(crates: &Path) -> Result<u8> {
     write_tables(crates)?;
     write_discs(crates)?;
     fs::create_dir_all(crates.join("draws"))?;
+    fs::create_dir_all(crates.join("stored_images"))?;
     for (file, bytes) in checked(crates)? {
         fs::write(crates.join(file), bytes)?;
     }

@@ -259,7 +259,7 @@ fn work(disc: &Disc, reading: &Reading) -> Vec<u8> {
 }
 
 /// FNV-1a, 64 bits.
-fn digest(bytes: &[u8]) -> u64 {
+pub fn digest(bytes: &[u8]) -> u64 {
     let basis = 0xcbf2_9ce4_8422_2325;
     bytes
         .iter()

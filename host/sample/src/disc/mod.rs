@@ -9,7 +9,7 @@ use generate::disc::{Disc, any_disc};
 use oracle::error::{Slot, Warning, WarningCode};
 use oracle::toc::AreaPointer;
 
-pub use answer::lines;
+pub use answer::{digest, lines};
 
 /// The bytes of a name, with zeros behind it.
 const NAME: usize = 28;
