@@ -2,7 +2,7 @@
 use Prim.Native.Nat.{ℕ, _+_, _-_, _≤_}
 use native.Mathlib.Omega.{arith}
 use borrow.Rule.Slice.PartMut.{putMid}
-use mathlib.Core.Path.{_≡_, sym, ap, ap₂, _∙_}
+use mathlib.Core.Path.{_≡_, refl, sym, ap, ap₂, _∙_}
 use mathlib.Core.List.{List, _++_, append-assoc}
 use lib.ListN.{length, take, drop, length-append}
 use lib.Seq.{drop-drop, take-at, drop-at, length-take-le, take-append-le, drop-append-le, take-take, take-add}
@@ -26,9 +26,15 @@ fill-over new old e = sym (copy-whole 0 new old (omega arith)) ∙ copy-over new
 
 -- ---- fills that do not touch
 
+abbrev filled : ℕ → List ℕ → List ℕ → List ℕ
+filled at new old = take at old ++ (new ++ drop (at + length new) old)
+
+fill-is : (at : ℕ) (new old : List ℕ) → fill at new old ≡ filled at new old
+fill-is at new old =
+    sym (put-fill at (length new) old new refl) ∙ ap (λ (r : List ℕ). take at old ++ (new ++ r)) (drop-drop (length new) at old)
+
 -- a fill of the second of two lists
-fill-back : (x l y : List ℕ) (m d : ℕ) → length x ≡ m → fill (m + d) y (x ++ l) ≡ x ++ fill d y l
-unfolding fill
+fill-back : (x l y : List ℕ) (m d : ℕ) → length x ≡ m → filled (m + d) y (x ++ l) ≡ x ++ filled d y l
 fill-back x l y m d e =
     let f : m + d + length y ≡ m + (d + length y) = omega arith in
     ap₂ (λ (a b : List ℕ). a ++ (y ++ b))
@@ -41,31 +47,34 @@ drop-take m n l h = ap (drop m) (take-add m n l) ∙ drop-at (take m l) (take n 
 
 module _ (l : List ℕ) where
   -- a fill behind a place: what stands from the place on, and before it
-  drop-fill : (m d : ℕ) (y : List ℕ) → m + d ≤ length l → drop m (fill (m + d) y l) ≡ fill d y (drop m l)
-  unfolding fill
+  drop-fill : (m d : ℕ) (y : List ℕ) → m + d ≤ length l → drop m (filled (m + d) y l) ≡ filled d y (drop m l)
   drop-fill m d y inside =
       let f : m + d + length y ≡ m + (d + length y) = omega arith in
       let n = length-take-le (m + d) l inside in
       drop-append-le m (take (m + d) l) (y ++ drop (m + d + length y) l) (omega arith)
       ∙ ap₂ (λ (a b : List ℕ). a ++ (y ++ b)) (drop-take m d l (omega arith)) (ap (λ (n : ℕ). drop n l) f ∙ sym (drop-drop (d + length y) m l))
 
-  take-fill : (q p : ℕ) (y : List ℕ) → q ≤ p → p ≤ length l → take q (fill p y l) ≡ take q l
-  unfolding fill
+  take-fill : (q p : ℕ) (y : List ℕ) → q ≤ p → p ≤ length l → take q (filled p y l) ≡ take q l
   take-fill q p y before inside =
       let n = length-take-le p l inside in
       take-append-le q (take p l) (y ++ drop (p + length y) l) (omega arith) ∙ take-take q p l before
 
-  pub fill-swap : (q p : ℕ) (x y : List ℕ) → q + length x ≤ p → p ≤ length l → fill p y (fill q x l) ≡ fill q x (fill p y l)
-  unfolding fill
-  fill-swap q p x y apart inside =
+  filled-swap : (q p : ℕ) (x y : List ℕ) → q + length x ≤ p → p ≤ length l → filled p y (filled q x l) ≡ filled q x (filled p y l)
+  filled-swap q p x y apart inside =
       let m = q + length x in let d = p - (q + length x) in
       let e : p ≡ q + length x + (p - (q + length x)) = omega arith in
       let size : length (take q l ++ x) ≡ q + length x = rw length-append (omega (arith, length-take-le q l (omega arith))) in
-      ap (fill p y) (sym (append-assoc (take q l) x (drop m l)))
-      ∙ ap (λ (n : ℕ). fill n y (take q l ++ x ++ drop m l)) e
+      ap (filled p y) (sym (append-assoc (take q l) x (drop m l)))
+      ∙ ap (λ (n : ℕ). filled n y (take q l ++ x ++ drop m l)) e
       ∙ fill-back (take q l ++ x) (drop m l) y m d size
-      ∙ append-assoc (take q l) x (fill d y (drop m l))
-      ∙ sym (ap₂ (λ (a b : List ℕ). a ++ (x ++ b)) (take-fill q p y (omega arith) inside) (ap (λ (n : ℕ). drop m (fill n y l)) e ∙ drop-fill m d y (omega arith)))
+      ∙ append-assoc (take q l) x (filled d y (drop m l))
+      ∙ sym (ap₂ (λ (a b : List ℕ). a ++ (x ++ b)) (take-fill q p y (omega arith) inside) (ap (λ (n : ℕ). drop m (filled n y l)) e ∙ drop-fill m d y (omega arith)))
+
+  pub fill-swap : (q p : ℕ) (x y : List ℕ) → q + length x ≤ p → p ≤ length l → fill p y (fill q x l) ≡ fill q x (fill p y l)
+  fill-swap q p x y apart inside =
+      fill-is p y (fill q x l) ∙ ap (filled p y) (fill-is q x l)
+      ∙ filled-swap q p x y apart inside
+      ∙ sym (fill-is q x (fill p y l) ∙ ap (filled q x) (fill-is p y l))
 
 -- three fills of parts that do not touch, each with more behind it
 module _ (H h D d T t old : List ℕ) (a b : ℕ)

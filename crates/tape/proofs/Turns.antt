@@ -7,7 +7,6 @@ use mathlib.Core.List.{List, _++_, append-assoc}
 use mathlib.Core.Bool.{Bool, true, false, cond}
 use borrow.Author.Tests.{eq-eqb, ne-eqb}
 use lib.ListN.{length, drop, length-append, length-drop}
-use lib.Seq.{take-all}
 use Rattle.sectors.specs.Audit.{headerFormat}
 use Rattle.sectors.specs.Fill.{part, fill}
 use Rattle.sectors.specs.FillLaws.{part-length, length-fill, fill-none, fill-more}
@@ -15,7 +14,7 @@ use Rattle.sectors.specs.Format.{sectorSize}
 use Rattle.sectors.specs.Sector.{sectorCount}
 use Rattle.tape.specs.Store.{headSize, tailSize, tailOffset, rawSize, sectorsIn, blocks, pieceOf, headOf, dataOf, tailOf, gathered, pieceFrom, sectorFrom, scattered, unequalLengths, lengthsRefusal, gatherInto, scatterInto}
 use Rattle.tape.specs.Steps.{pieceCopied, sectorGathered, sectorScattered, sectorCopied}
-use Rattle.tape.specs.BlockLaws.{blocks-length}
+use Rattle.tape.specs.BlockLaws.{part-end, blocks-length}
 use Rattle.tape.specs.StoreLaws.{whole-sectors, piece-length, pieces-length, sector-length, sectors-length, heads-length, both-length, all-length, before-rest}
 use Rattle.tape.proofs.Fills.{fill-over, three-more, fills-join}
 
@@ -126,14 +125,12 @@ module _ (n : ℕ) (x old : List ℕ) (count : n ≡ sectorCount headerFormat (l
   -- all that stands before it, and it
   rest-behind : (front last : List ℕ) → length front ≡ n * rawSize
       → last ≡ rest-filled (fill 0 front old) → last ≡ front ++ drop (n * rawSize) x
-  unfolding part
   rest-behind front last long e =
       let w = whole in
       let size = length-drop (n * rawSize) x in
-      let whole-rest = take-all (length x - n * rawSize) (drop (n * rawSize) x) (omega arith) in
       let at : n * rawSize ≡ 0 + length front = omega arith in
       let all = length-append front (drop (n * rawSize) x) in
-      e ∙ (λ i. fill (at i) (whole-rest i) (fill 0 front old))
+      e ∙ ap₂ (λ (p : ℕ) (r : List ℕ). fill p r (fill 0 front old)) at (part-end (n * rawSize) x)
       ∙ fill-more 0 front old (omega arith) (drop (n * rawSize) x) (omega arith)
       ∙ fill-over (front ++ drop (n * rawSize) x) old (omega arith)
 

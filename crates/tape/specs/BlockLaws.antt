@@ -1,29 +1,34 @@
 -- Laws of parts of a list, and of lists of one size one after another. Assumes nothing.
-use Prim.Native.Nat.{ℕ, zero, suc, _+_, _*_, _<_}
+use Prim.Native.Nat.{ℕ, zero, suc, _+_, _*_, _-_, _<_}
 use native.Mathlib.Decide.{ℕ-discrete}
 use native.Mathlib.Nat.{zero-mul}
 use native.Mathlib.Omega.{arith}
 use mathlib.Core.Path.{_≡_, refl, sym, ap, ap₂, _∙_}
 use mathlib.Core.List.{List, _++_, append-assoc}
-use lib.ListN.{length, take, drop, length-append, take-append-drop}
-use lib.Seq.{take-add, drop-drop, take-at, drop-at}
+use lib.ListN.{length, take, drop, length-append, length-drop, take-append-drop}
+use lib.Seq.{take-add, take-all, drop-drop, take-at, drop-at}
 use Rattle.sectors.specs.Fill.{part}
+use Rattle.sectors.specs.FillLaws.{slice-part}
 use Rattle.tape.specs.Store.{blocks}
+
+part-is : (at n : ℕ) (l : List ℕ) → part at n l ≡ take n (drop at l)
+part-is at n l = let e : at + n - at ≡ n = omega arith in rw e at (sym (slice-part at n l))
 
 -- two parts one behind the other are one
 pub part-add : (at m n : ℕ) (l : List ℕ) → part at m l ++ part (at + m) n l ≡ part at (m + n) l
-unfolding part
-part-add at m n l = sym (take-add m n (drop at l) ∙ ap (λ (r : List ℕ). take m (drop at l) ++ take n r) (drop-drop m at l))
+part-add at m n l = rw (part-is at m l, part-is (at + m) n l, part-is at (m + n) l, take-add m n (drop at l), drop-drop m at l)
 
 -- a part, and what is behind it
 pub part-then : (at n : ℕ) (l : List ℕ) → part at n l ++ drop (at + n) l ≡ drop at l
-unfolding part
-part-then at n l = ap (λ (r : List ℕ). take n (drop at l) ++ r) (sym (drop-drop n at l)) ∙ take-append-drop n (drop at l)
+part-then at n l = rw (part-is at n l, ← drop-drop n at l) (take-append-drop n (drop at l))
+
+-- the part to the end
+pub part-end : (at : ℕ) (l : List ℕ) → part at (length l - at) l ≡ drop at l
+part-end at l = part-is at (length l - at) l ∙ take-all (length l - at) (drop at l) (rw length-drop (omega arith))
 
 -- the second of three lists is a part of all
 pub part-middle : (a b c : List ℕ) (at n : ℕ) → length a ≡ at → length b ≡ n → part at n (a ++ (b ++ c)) ≡ b
-unfolding part
-part-middle a b c at n e f = ap (take n) (drop-at a (b ++ c) at e) ∙ take-at b c n f
+part-middle a b c at n e f = part-is at n (a ++ (b ++ c)) ∙ ap (take n) (drop-at a (b ++ c) at e) ∙ take-at b c n f
 
 module _ (f : ℕ → List ℕ) (size : ℕ) where
   pub blocks-length : (n : ℕ) → ((k : ℕ) → k < n → length (f k) ≡ size) → length (blocks f n) ≡ n * size
@@ -62,10 +67,8 @@ blocks-same f g (suc n) same = ap₂ (λ (a b : List ℕ). a ++ b) (blocks-same 
 
 -- parts that stand one behind another are one part
 pub blocks-part : (at size : ℕ) (l : List ℕ) (n : ℕ) → blocks (λ k. part (at + k * size) size l) n ≡ part at (n * size) l
-unfolding blocks part
-blocks-part at size l zero = sym (ap (λ (m : ℕ). take m (drop at l)) (zero-mul size))
+unfolding blocks
+blocks-part at size l zero = rw (zero-mul size, part-is at 0 l)
 blocks-part at size l (suc n) =
     let e : n * size + size ≡ suc n * size = omega arith in
-    ap (λ (b : List ℕ). b ++ part (at + n * size) size l) (blocks-part at size l n)
-    ∙ part-add at (n * size) size l
-    ∙ ap (λ (m : ℕ). part at m l) e
+    rw (blocks-part at size l n, part-add at (n * size) size l, e)

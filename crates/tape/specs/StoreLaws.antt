@@ -32,8 +32,8 @@ pieces-then n offset size x =
 -- those of the first kind have nothing before them
 pieces-all : (n size : ℕ) (x : List ℕ) → blocks (pieceFrom n 0 size x) n ++ drop (n * size) x ≡ x
 pieces-all n size x =
-    let none : n * 0 ≡ 0 = omega arith in let all : size ≡ 0 + size = omega arith in
-    ap (λ (m : ℕ). blocks (pieceFrom n 0 size x) n ++ drop (n * m) x) all ∙ pieces-then n 0 size x ∙ ap (λ (m : ℕ). drop m x) none
+    let first : n * 0 ≡ 0 = omega arith in let all : size ≡ 0 + size = omega arith in
+    ap (λ (m : ℕ). blocks (pieceFrom n 0 size x) n ++ drop (n * m) x) all ∙ pieces-then n 0 size x ∙ ap (λ (m : ℕ). drop m x) first
 
 -- head, data and tail of a stored sector are all of it
 pieces-join : (n : ℕ) (x : List ℕ) (k : ℕ)
