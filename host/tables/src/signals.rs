@@ -8,14 +8,11 @@ use std::ptr;
 use std::sync::OnceLock;
 use std::sync::atomic::{AtomicPtr, Ordering};
 
-const SIGHUP: c_int = 1;
-const SIGINT: c_int = 2;
-const SIGQUIT: c_int = 3;
 const SIGBUS: c_int = 7;
-const SIGTERM: c_int = 15;
 const SIGXFSZ: c_int = 25;
-/// Signals by which a user, a terminal or the system asks a program to end.
-const DEADLY: [c_int; 4] = [SIGHUP, SIGINT, SIGQUIT, SIGTERM];
+/// Signals from outside that end a program which does nothing about them: HUP, INT, QUIT, ABRT, USR1,
+/// USR2, ALRM, TERM, XCPU, VTALRM, PROF, IO and PWR.
+const DEADLY: [c_int; 13] = [1, 2, 3, 6, 10, 12, 14, 15, 24, 26, 27, 29, 30];
 /// In place of a handler: what the system does by itself, and nothing.
 const DEFAULT: *const c_void = ptr::null();
 const IGNORED: *const c_void = ptr::without_provenance(1);

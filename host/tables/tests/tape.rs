@@ -259,7 +259,16 @@ fn is_ignored(number: u32) -> bool {
 
 #[test]
 fn a_signal_removes_the_file_and_ends_the_program() {
-    for (signal, number) in [("HUP", 1), ("INT", 2), ("QUIT", 3), ("TERM", 15)] {
+    let signals = [
+        ("HUP", 1),
+        ("INT", 2),
+        ("QUIT", 3),
+        ("ABRT", 6),
+        ("USR1", 10),
+        ("TERM", 15),
+        ("XCPU", 24),
+    ];
+    for (signal, number) in signals {
         if is_ignored(number) {
             eprintln!("{signal} is left out: it is ignored here");
             continue;
