@@ -87,14 +87,15 @@ pub fn remove_at_end(path: CString) {
     set_action(SIGXFSZ, IGNORED, 0);
 }
 
-/// Removes the file that is not finished, if there is one.
+/// Removes the file that is not finished, if there is one, and once: what stands there later is
+/// another's.
 pub fn remove_unfinished() {
-    let path = UNFINISHED.load(Ordering::SeqCst);
+    let _held = hold();
+    let path = UNFINISHED.swap(ptr::null_mut(), Ordering::SeqCst);
     if !path.is_null() {
         // SAFETY: it is a path that ends with a zero and is never dropped.
         unsafe { unlink(path) };
     }
-    keep_finished();
 }
 
 /// The file is finished: it is no longer removed.
