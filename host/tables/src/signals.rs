@@ -2,7 +2,7 @@
 //! line; and a new file that is not finished is removed first, there and when a signal ends the program.
 //! The handlers make only calls that a handler may make.
 
-use std::ffi::{CString, c_char, c_int, c_void};
+use std::ffi::{CStr, CString, c_char, c_int, c_void};
 use std::ops::Range;
 use std::ptr;
 use std::sync::OnceLock;
@@ -46,10 +46,27 @@ struct Fault {
     address: usize,
 }
 
+/// What is asked of a file, a struct stat: which one it is.
+#[repr(C)]
+#[derive(Default)]
+struct Status {
+    device: u64,
+    inode: u64,
+    others: [u64; 16],
+}
+
+/// A file that is not finished.
+struct Unfinished {
+    path: CString,
+    /// Which one stood there when it was made.
+    which: [u64; 2],
+}
+
 unsafe extern "C" {
     fn sigaction(number: c_int, action: *const Action, before: *mut Action) -> c_int;
     fn pthread_sigmask(how: c_int, set: *const Signals, before: *mut Signals) -> c_int;
     fn write(file: c_int, bytes: *const u8, len: usize) -> isize;
+    fn lstat(path: *const c_char, answer: *mut Status) -> c_int;
     fn unlink(path: *const c_char) -> c_int;
     safe fn raise(number: c_int) -> c_int;
     safe fn _exit(status: c_int) -> !;
@@ -59,8 +76,8 @@ unsafe extern "C" {
 static UNREADABLE: OnceLock<String> = OnceLock::new();
 /// The addresses of a mapped file that is written, and what is written when one of them cannot be.
 static UNWRITABLE: OnceLock<(Range<usize>, String)> = OnceLock::new();
-/// The path of the file that is not finished; null for none. It is never dropped.
-static UNFINISHED: AtomicPtr<c_char> = AtomicPtr::new(ptr::null_mut());
+/// The file that is not finished; null for none. It is never dropped.
+static UNFINISHED: AtomicPtr<Unfinished> = AtomicPtr::new(ptr::null_mut());
 
 /// From now on a mapped byte that cannot be read, for a read error or because the file was made
 /// shorter, ends the program with this line on standard error and exit status 2.
@@ -77,7 +94,8 @@ pub fn report_write_faults(addresses: Range<usize>, line: String) {
 /// From now on a signal that ends the program, and a fault, first remove the file of this path, until
 /// [`remove_unfinished`] or [`keep_finished`]. Signals that are ignored, as by nohup, stay so.
 pub fn remove_at_end(path: CString) {
-    UNFINISHED.store(path.into_raw(), Ordering::SeqCst);
+    let which = which(&path);
+    UNFINISHED.store(Box::into_raw(Box::new(Unfinished { path, which })), Ordering::SeqCst);
     for number in DEADLY {
         if action(number).handler != IGNORED {
             set_action(number, on_death as *const c_void, 0);
@@ -87,15 +105,26 @@ pub fn remove_at_end(path: CString) {
     set_action(SIGXFSZ, IGNORED, 0);
 }
 
-/// Removes the file that is not finished, if there is one, and once: what stands there later is
-/// another's.
+/// Removes the file that is not finished, if there is one, and once. What came to its path since is
+/// another's, and stays.
 pub fn remove_unfinished() {
     let _held = hold();
-    let path = UNFINISHED.swap(ptr::null_mut(), Ordering::SeqCst);
-    if !path.is_null() {
-        // SAFETY: it is a path that ends with a zero and is never dropped.
-        unsafe { unlink(path) };
+    let unfinished = UNFINISHED.swap(ptr::null_mut(), Ordering::SeqCst);
+    // SAFETY: it is null, or one that is never dropped nor changed.
+    if let Some(Unfinished { path, which: made }) = unsafe { unfinished.as_ref() }
+        && which(path) == *made
+    {
+        // SAFETY: the path ends with a zero.
+        unsafe { unlink(path.as_ptr()) };
     }
+}
+
+/// Which file stands at a path, by device and inode; zeros if there is none.
+fn which(path: &CStr) -> [u64; 2] {
+    let mut status = Status::default();
+    // SAFETY: the path ends with a zero, and the answer has the room of a struct stat.
+    unsafe { lstat(path.as_ptr(), &mut status) };
+    [status.device, status.inode]
 }
 
 /// The file is finished: it is no longer removed.

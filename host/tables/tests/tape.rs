@@ -289,6 +289,17 @@ fn a_signal_that_is_ignored_stays_so() {
     assert_eq!(gathering.end().status.signal(), Some(15));
 }
 
+#[test]
+fn what_another_made_at_out_meanwhile_stays() {
+    let Some(gathering) = Gathering::start("replaced", "") else { return };
+    fs::remove_file(&*gathering.out).expect("it is there");
+    fs::write(&*gathering.out, "another's").expect("a scratch file is written");
+    gathering.send("TERM");
+    let Gathering { out, mut child, .. } = gathering;
+    assert_eq!(child.wait().expect("it ends").signal(), Some(15));
+    assert_eq!(fs::read_to_string(&*out).expect("it stays"), "another's");
+}
+
 /// Makes a file shorter.
 fn cut(file: &Path) {
     let file = File::options().write(true).open(file).expect("it is there");
