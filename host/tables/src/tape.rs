@@ -93,12 +93,14 @@ impl Drop for NewFile {
 struct Watch(Sender<()>);
 
 impl Watch {
-    /// Starts a thread for it; none where nobody would see it.
+    /// Starts a thread for it; none where nobody would see it, or there can be none.
     fn start<'a>(scope: &'a Scope<'a, '_>, file: &'a File, len: u64) -> Self {
         let (sender, flushed) = channel();
         if let Some(progress) = Progress::on_standard_error() {
             let written = || file.metadata().map_or(0, |data| data.blocks() * BLOCK);
-            scope.spawn(move || show(progress, flushed, written, len));
+            let show = move || show(progress, flushed, written, len);
+            // The file is written all the same.
+            let _ = thread::Builder::new().spawn_scoped(scope, show);
         }
         Watch(sender)
     }
