@@ -24,7 +24,8 @@ const BLOCK: u64 = 512;
 /// if a signal ends the program, there is no such file.
 pub fn write(image: &Map, out: &Path, call: Call, fault: String) -> io::Result<()> {
     let len = image.bytes().len();
-    check_space(out, len as u64)?;
+    let folder = folder(out);
+    check_space(folder, len as u64)?;
     image.in_order();
     let held = signals::hold();
     let new = NewFile::make(out)?;
@@ -35,17 +36,28 @@ pub fn write(image: &Map, out: &Path, call: Call, fault: String) -> io::Result<(
         watch.at_flush();
         new.file.sync_all()
     })?;
+    flush_names(folder);
     new.keep();
     Ok(())
 }
 
-/// What is wrong if the folder's file system has too little space for a file.
-fn check_space(file: &Path, needed: u64) -> io::Result<()> {
-    let folder = match file.parent() {
+/// The folder of a file.
+fn folder(file: &Path) -> &Path {
+    match file.parent() {
         Some(folder) if folder.as_os_str().is_empty() => Path::new("."),
         Some(folder) => folder,
         None => file,
-    };
+    }
+}
+
+/// Flushes the names in a folder, which a file's flush need not do. One that cannot be opened for this,
+/// and a file system that has no such flush, are left to themselves.
+fn flush_names(folder: &Path) {
+    let _ = File::open(folder).and_then(|folder| folder.sync_all());
+}
+
+/// What is wrong if the folder's file system has too little space for a file.
+fn check_space(folder: &Path, needed: u64) -> io::Result<()> {
     let free = free_space(folder)?;
     if free < needed {
         let why = format!("too little space: {needed} bytes are needed, {free} are free");
