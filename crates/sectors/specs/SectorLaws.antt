@@ -1,6 +1,6 @@
 -- Laws of formats and of an image's sectors: their sizes, which of them are readable, and their data bytes. Assumes nothing.
 use Prim.Native.Nat.{ℕ, zero, suc, _+_, _*_, _-_, _/_, _≤_, _<_}
-use native.Mathlib.Nat.{add-zero, add-suc, add-assoc, div-zero, div-le-self, div-mul-le-self, le-div-iff-mul-le, mul-le-mul-right}
+use native.Mathlib.Nat.{add-zero, add-suc, add-assoc, div-zero, div-le-self, div-mul-le-self, le-div-iff-mul-le, lt-mul-div-succ, mul-le-mul-right}
 use native.Mathlib.Omega.{arith}
 use mathlib.Core.Logic.{_≢_, _↔_}
 use mathlib.Core.Path.{_≡_, refl, sym, _∙_, ap}
@@ -33,7 +33,12 @@ unfolding storedSize layoutOf foreign
 foreign-size format h =
     ap (λ (l : Layout). l .stored) (List·getD-eq-default layouts (record { stored = 0; offset = 0 }) (leb-true 3 format h))
 
--- in any other the data lie in the stored sector
+-- `Raw2064`
+pub raw2064-size : storedSize 2 ≡ 2064
+unfolding storedSize layoutOf
+raw2064-size = refl
+
+-- in any format that is not foreign the data lie in the stored sector
 pub data-inside : (format : ℕ) → foreign format ≡ false → dataOffset format + sectorSize ≤ storedSize format
 unfolding storedSize dataOffset layoutOf foreign
 data-inside zero h = omega arith
@@ -77,6 +82,11 @@ count-known format bytes h = go (foreign format) refl
 pub count-fits : (format bytes n : ℕ) → n ≤ sectorCount format bytes → n * storedSize format ≤ bytes
 unfolding sectorCount
 count-fits format bytes n h = omega (arith, mul-le-mul-right (storedSize format) h, div-mul-le-self bytes (storedSize format))
+
+-- "rounded down": what is behind them is shorter than a sector
+pub count-most : (format bytes : ℕ) → 0 < storedSize format → bytes < (sectorCount format bytes + 1) * storedSize format
+unfolding sectorCount
+count-most format bytes positive = omega (arith, lt-mul-div-succ bytes positive)
 
 -- there are no more sectors than bytes
 pub count-bound : (format bytes : ℕ) → sectorCount format bytes ≤ bytes
@@ -231,8 +241,3 @@ plain-run image lsn (suc n) h =
     let place : (lsn + n) * sectorSize + 0 ≡ lsn * sectorSize + n * sectorSize = omega arith in
     let size : suc n * sectorSize ≡ n * sectorSize + sectorSize = omega arith in
     rw (front, last, place, size, take-add (n * sectorSize) sectorSize (drop (lsn * sectorSize) image), drop-drop (n * sectorSize) (lsn * sectorSize) image)
-
--- ---- format 2, `Raw2064`
-pub raw2064-size : storedSize 2 ≡ 2064
-unfolding storedSize layoutOf
-raw2064-size = refl

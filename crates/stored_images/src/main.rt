@@ -47,31 +47,31 @@ fn print_refusals(image: &[u8]) {
     print_scattered(b"scattered into a byte", image, &mut byte);
 }
 
+fn print_image(image: &mut [u8], out: &mut [u8], back: &mut [u8]) {
+    io::read_full(STDIN_FILENO, image);
+    print_ways(image, out, back);
+    print_refusals(image);
+}
+
 fn no_sector() {
     let mut image = [0u8; NO_SECTOR];
     let mut out = [0u8; NO_SECTOR];
     let mut back = [0u8; NO_SECTOR];
-    io::read_full(STDIN_FILENO, &mut image);
-    print_ways(&image, &mut out, &mut back);
-    print_refusals(&image);
+    print_image(&mut image, &mut out, &mut back);
 }
 
 fn two_sectors_and_a_rest() {
     let mut image = [0u8; TWO_AND_A_REST];
     let mut out = [0u8; TWO_AND_A_REST];
     let mut back = [0u8; TWO_AND_A_REST];
-    io::read_full(STDIN_FILENO, &mut image);
-    print_ways(&image, &mut out, &mut back);
-    print_refusals(&image);
+    print_image(&mut image, &mut out, &mut back);
 }
 
 fn three_sectors() {
     let mut image = [0u8; THREE];
     let mut out = [0u8; THREE];
     let mut back = [0u8; THREE];
-    io::read_full(STDIN_FILENO, &mut image);
-    print_ways(&image, &mut out, &mut back);
-    print_refusals(&image);
+    print_image(&mut image, &mut out, &mut back);
 }
 
 fn main() {

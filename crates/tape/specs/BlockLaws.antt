@@ -18,6 +18,11 @@ part-is at n l = let e : at + n - at ≡ n = omega arith in rw e at (sym (slice-
 pub part-add : (at m n : ℕ) (l : List ℕ) → part at m l ++ part (at + m) n l ≡ part at (m + n) l
 part-add at m n l = rw (part-is at m l, part-is (at + m) n l, part-is at (m + n) l, take-add m n (drop at l), drop-drop m at l)
 
+-- and so are three
+pub part-three : (p q r a b c all : ℕ) (l : List ℕ) → q ≡ p + a → r ≡ q + b → a + (b + c) ≡ all
+    → part p a l ++ (part q b l ++ part r c l) ≡ part p all l
+part-three p q r a b c all l second third long = rw (third, part-add q b c l, second, part-add p a (b + c) l, long)
+
 -- a part, and what is behind it
 pub part-then : (at n : ℕ) (l : List ℕ) → part at n l ++ drop (at + n) l ≡ drop at l
 part-then at n l = rw (part-is at n l, ← drop-drop n at l) (take-append-drop n (drop at l))
@@ -44,21 +49,16 @@ module _ (f : ℕ → List ℕ) (size : ℕ) where
       → part (at + k * size) size (before ++ (blocks f n ++ rest)) ≡ f k
   unfolding blocks
   block-at before rest at zero k e sized q = absurd (omega arith)
-  block-at before rest at (suc n) k e sized q = go (ℕ-discrete k n) (λ s. block-at before (f n ++ rest) at n k e (λ j r. sized j (omega arith)) s)
+  block-at before rest at (suc n) k e sized q =
+      let sized-before : (j : ℕ) → j < n → length (f j) ≡ size = λ j r. sized j (omega arith) in
+      rw (append-assoc (blocks f n) (f n) rest) (go (ℕ-discrete k n) (blocks-length n sized-before) (block-at before (f n ++ rest) at n k e sized-before))
     where
-      behind : blocks f n ++ f n ++ rest ≡ blocks f n ++ (f n ++ rest)
-      behind = append-assoc (blocks f n) (f n) rest
-
-      last : part (at + n * size) size (before ++ (blocks f n ++ (f n ++ rest))) ≡ f n
-      last =
-          let long = blocks-length n (λ j r. sized j (omega arith)) in
-          ap (part (at + n * size) size) (sym (append-assoc before (blocks f n) (f n ++ rest)))
-          ∙ part-middle (before ++ blocks f n) (f n) rest (at + n * size) size (rw length-append (omega arith)) (sized n (omega arith))
-
-      go : Dec (k ≡ n) → (k < n → part (at + k * size) size (before ++ (blocks f n ++ (f n ++ rest))) ≡ f k)
-          → part (at + k * size) size (before ++ (blocks f n ++ f n ++ rest)) ≡ f k
-      go (yes e) earlier = ap (λ (l : List ℕ). part (at + k * size) size (before ++ l)) behind ∙ rw e last
-      go (no e) earlier = ap (λ (l : List ℕ). part (at + k * size) size (before ++ l)) behind ∙ earlier (omega arith)
+      go : Dec (k ≡ n) → length (blocks f n) ≡ n * size → (k < n → part (at + k * size) size (before ++ (blocks f n ++ (f n ++ rest))) ≡ f k)
+          → part (at + k * size) size (before ++ (blocks f n ++ (f n ++ rest))) ≡ f k
+      go (yes is) long earlier =
+          rw (is, ← append-assoc before (blocks f n) (f n ++ rest))
+          (part-middle (before ++ blocks f n) (f n) rest (at + n * size) size (rw length-append (omega arith)) (sized n (omega arith)))
+      go (no differ) long earlier = earlier (omega arith)
 
 pub blocks-same : (f g : ℕ → List ℕ) (n : ℕ) → ((k : ℕ) → k < n → f k ≡ g k) → blocks f n ≡ blocks g n
 unfolding blocks

@@ -1,25 +1,21 @@
--- What the program copies at once, a piece and a sector, for the contracts of its own functions; no rule of 02. Assumes nothing.
+-- What the program copies at once, a piece, a sector and an image, for the contracts of its own functions; no rule of 02. Assumes nothing.
 use Prim.Native.Nat.{ℕ, _+_, _*_}
 use mathlib.Core.Bool.{Bool, cond}
 use mathlib.Core.List.{List}
-use Rattle.sectors.specs.Fill.{part, fill}
+use Rattle.sectors.specs.Fill.{fill}
 use Rattle.sectors.specs.Format.{sectorSize}
-use Rattle.tape.specs.Store.{headSize, tailSize, tailOffset, rawSize, headOf, dataOf, tailOf, sectorFrom}
+use Rattle.tape.specs.Store.{headSize, tailSize, tailOffset, rawSize, pieceOf, pieceFrom, gatherInto, scatterInto}
 
--- a piece goes from its place in the image to that among gathered ones, or back
-unfoldable pub pieceCopied : Bool → ℕ → ℕ → ℕ → List ℕ → List ℕ → List ℕ
-pieceCopied back stored gathered size from old =
-    cond back (fill stored (part gathered size from) old) (fill gathered (part stored size from) old)
+-- a piece of sector `k` of `n` goes from its place in the image to that among gathered ones, or back
+unfoldable pub pieceCopied : Bool → ℕ → ℕ → ℕ → ℕ → List ℕ → List ℕ → List ℕ
+pieceCopied back n k offset size from old =
+    cond back (fill (k * rawSize + offset) (pieceFrom n offset size from k) old) (fill (n * offset + k * size) (pieceOf offset size from k) old)
 
--- sector `k` of `n`, gathered
-unfoldable pub sectorGathered : ℕ → List ℕ → ℕ → List ℕ → List ℕ
-sectorGathered n image k old =
-    fill (n * tailOffset + k * tailSize) (tailOf image k)
-    (fill (n * headSize + k * sectorSize) (dataOf image k) (fill (k * headSize) (headOf image k) old))
+-- and its head, its data and its tail
+unfoldable pub sectorCopied : Bool → ℕ → ℕ → List ℕ → List ℕ → List ℕ
+sectorCopied back n k from old =
+    pieceCopied back n k tailOffset tailSize from (pieceCopied back n k headSize sectorSize from (pieceCopied back n k 0 headSize from old))
 
--- and scattered
-unfoldable pub sectorScattered : ℕ → List ℕ → ℕ → List ℕ → List ℕ
-sectorScattered n bytes k = fill (k * rawSize) (sectorFrom n bytes k)
-
-unfoldable pub sectorCopied : Bool → ℕ → List ℕ → ℕ → List ℕ → List ℕ
-sectorCopied back n from k old = cond back (sectorScattered n from k old) (sectorGathered n from k old)
+-- all sectors, and the rest
+unfoldable pub imageCopied : Bool → List ℕ → List ℕ → List ℕ
+imageCopied back from old = cond back (scatterInto from old) (gatherInto from old)

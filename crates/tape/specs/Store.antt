@@ -28,7 +28,7 @@ rawSize = tailOffset + tailSize
 unfoldable pub sectorsIn : List ℕ → ℕ
 sectorsIn image = sectorCount headerFormat (length image)
 
--- lists one after another, the first `n`
+-- the first `n` of a row of lists, one after another
 unfoldable pub blocks : (ℕ → List ℕ) → ℕ → List ℕ
 blocks f zero = []
 blocks f (suc n) = blocks f n ++ f n
@@ -86,6 +86,6 @@ gatherInto image old = cond (eqb (length image) (length old)) (gathered (sectors
 unfoldable pub scatterInto : List ℕ → List ℕ → List ℕ
 scatterInto bytes old = cond (eqb (length bytes) (length old)) (scattered (sectorsIn bytes) bytes) old
 
--- "The way back restores each image of any length byte for byte.": what a call of the other way then writes, into any buffer as long
+-- "The way back restores each image of any length byte for byte.": what the other way makes of what is written, in any buffer as long
 unfoldable pub Restores : (List ℕ → List ℕ → List ℕ) → List ℕ → List ℕ → Type 0
-Restores wayBack image written = (old : List ℕ) → length image ≡ length old → wayBack written old ≡ image
+Restores other read written = (old : List ℕ) → length read ≡ length old → other written old ≡ read

@@ -1,10 +1,10 @@
--- Laws of the tape store: each way undoes the other. Both go by the pieces of one kind, which are `size` bytes behind `offset` in each sector.
+-- Laws of the tape store: each way undoes the other. Both go by the pieces of one kind, which are `size` bytes of each sector from `offset` on.
 -- Assumes nothing.
 use Prim.Native.Nat.{ℕ, _+_, _*_, _≤_, _<_}
 use native.Mathlib.Decide.{ℕ-discrete}
 use native.Mathlib.Nat.{mul-le-mul-left, mul-le-mul-right}
 use native.Mathlib.Omega.{arith}
-use mathlib.Core.Path.{_≡_, refl, sym, ap, ap₂, _∙_}
+use mathlib.Core.Path.{_≡_, refl, sym, ap, _∙_}
 use mathlib.Core.List.{List, [], _++_, append-assoc, append-nil}
 use borrow.Author.Tests.{eq-eqb, ne-eqb}
 use lib.ListN.{length, drop, length-append, length-drop}
@@ -14,40 +14,45 @@ use Rattle.sectors.specs.Fill.{part}
 use Rattle.sectors.specs.FillLaws.{part-length, part-part}
 use Rattle.sectors.specs.Format.{sectorSize}
 use Rattle.sectors.specs.Sector.{sectorCount}
-use Rattle.sectors.specs.SectorLaws.{count-fits, raw2064-size}
+use Rattle.sectors.specs.SectorLaws.{raw2064-size, count-fits, count-most}
 use Rattle.tape.specs.Store.{headSize, tailSize, tailOffset, rawSize, sectorsIn, blocks, pieceOf, headOf, dataOf, tailOf, gathered, pieceFrom, sectorFrom, scattered, lengthsRefusal, gatherInto, scatterInto, Restores}
-use Rattle.tape.specs.BlockLaws.{part-add, part-then, part-middle, blocks-length, block-at, blocks-same, blocks-part}
+use Rattle.tape.specs.BlockLaws.{part-three, part-then, part-middle, blocks-length, block-at, blocks-same, blocks-part}
 
 -- whole sectors lie in the image
 pub whole-sectors : (n bytes : ℕ) → n ≡ sectorCount headerFormat bytes → n * rawSize ≤ bytes
 whole-sectors n bytes e = rw raw2064-size at (count-fits headerFormat bytes n (omega arith))
+
+-- and so does a piece among gathered ones
+pub place-inside : (n k bytes : ℕ) → k < n → n * rawSize ≤ bytes → (offset size : ℕ) → offset + size ≤ rawSize
+    → n * offset + k * size + size ≤ bytes
+place-inside n k bytes more whole offset size inside =
+    let below : (k + 1) * size ≤ n * size = mul-le-mul-right size (omega arith) in
+    let all : n * (offset + size) ≤ n * rawSize = mul-le-mul-left n inside in
+    omega arith
+
+-- "any rest shorter than a sector"
+pub rest-short : (x : List ℕ) → length (drop (sectorsIn x * rawSize) x) < rawSize
+unfolding sectorsIn
+rest-short x = rw length-drop (omega (arith, rw raw2064-size at (count-most headerFormat (length x) (rw raw2064-size (omega arith)))))
 
 -- all pieces of a kind, and what is behind them
 pieces-then : (n offset size : ℕ) (x : List ℕ) → blocks (pieceFrom n offset size x) n ++ drop (n * (offset + size)) x ≡ drop (n * offset) x
 unfolding pieceFrom
 pieces-then n offset size x =
     let e : n * (offset + size) ≡ n * offset + n * size = omega arith in
-    ap₂ (λ (l : List ℕ) (m : ℕ). l ++ drop m x) (blocks-part (n * offset) size x n) e ∙ part-then (n * offset) (n * size) x
+    rw (e, blocks-part (n * offset) size x n) (part-then (n * offset) (n * size) x)
 
 -- those of the first kind have nothing before them
 pieces-all : (n size : ℕ) (x : List ℕ) → blocks (pieceFrom n 0 size x) n ++ drop (n * size) x ≡ x
-pieces-all n size x =
-    let first : n * 0 ≡ 0 = omega arith in let all : size ≡ 0 + size = omega arith in
-    ap (λ (m : ℕ). blocks (pieceFrom n 0 size x) n ++ drop (n * m) x) all ∙ pieces-then n 0 size x ∙ ap (λ (m : ℕ). drop m x) first
+pieces-all n size x = let first : n * 0 ≡ 0 = omega arith in let all : 0 + size ≡ size = omega arith in rw (first, all) at (pieces-then n 0 size x)
 
 -- head, data and tail of a stored sector are all of it
 pieces-join : (n : ℕ) (x : List ℕ) (k : ℕ)
     → pieceOf 0 headSize x k ++ (pieceOf headSize sectorSize x k ++ pieceOf tailOffset tailSize x k) ≡ pieceFrom n 0 rawSize x k
 unfolding pieceOf pieceFrom
 pieces-join n x k =
-    let data-at : k * rawSize + headSize ≡ k * rawSize + 0 + headSize = omega arith in
-    let tail-at : k * rawSize + tailOffset ≡ k * rawSize + headSize + sectorSize = omega arith in
     let start : k * rawSize + 0 ≡ n * 0 + k * rawSize = omega arith in
-    ap (λ (l : List ℕ). part (k * rawSize + 0) headSize x ++ l)
-    (ap (λ (p : ℕ). part (k * rawSize + headSize) sectorSize x ++ part p tailSize x) tail-at
-    ∙ part-add (k * rawSize + headSize) sectorSize tailSize x
-    ∙ ap (λ (p : ℕ). part p (sectorSize + tailSize) x) data-at)
-    ∙ part-add (k * rawSize + 0) headSize (sectorSize + tailSize) x
+    part-three (k * rawSize + 0) (k * rawSize + headSize) (k * rawSize + tailOffset) headSize sectorSize tailSize rawSize x (omega arith) (omega arith) (omega arith)
     ∙ ap (λ (p : ℕ). part p rawSize x) start
 
 module _ (n : ℕ) (x : List ℕ) (whole : n * rawSize ≤ length x) where
@@ -63,10 +68,7 @@ module _ (n : ℕ) (x : List ℕ) (whole : n * rawSize ≤ length x) where
 
     pub from-length : (k : ℕ) → k < n → length (pieceFrom n offset size x k) ≡ size
     unfolding pieceFrom
-    from-length k q =
-        let below : (k + 1) * size ≤ n * size = mul-le-mul-right size (omega arith) in
-        let all : n * (offset + size) ≤ n * rawSize = mul-le-mul-left n inside in
-        part-length (n * offset + k * size) size x (omega arith)
+    from-length k q = part-length (n * offset + k * size) size x (place-inside n k (length x) q whole offset size inside)
 
   pub sector-length : (k : ℕ) → k < n → length (sectorFrom n x k) ≡ rawSize
   unfolding sectorFrom
@@ -100,21 +102,21 @@ module _ (n : ℕ) (x : List ℕ) (whole : n * rawSize ≤ length x) where
   pub all-length : length (heads ++ datas ++ tails) ≡ n * rawSize
   all-length = let b = both-length in let t = pieces-length tailOffset tailSize (omega arith) in rw length-append (omega arith)
 
-  -- the gathered bytes, and what stands in them before the tails, and before the rest
-  before-heads : gathered n x ≡ heads ++ (datas ++ (tails ++ rest))
+  -- the gathered bytes: the heads first; heads and data; all three, then the rest
+  heads-first : gathered n x ≡ heads ++ (datas ++ (tails ++ rest))
   unfolding gathered headOf dataOf tailOf
-  before-heads = refl
+  heads-first = refl
 
-  before-tails : gathered n x ≡ heads ++ datas ++ (tails ++ rest)
-  before-tails = before-heads ∙ sym (append-assoc heads datas (tails ++ rest))
+  both-first : gathered n x ≡ heads ++ datas ++ (tails ++ rest)
+  both-first = heads-first ∙ sym (append-assoc heads datas (tails ++ rest))
 
-  pub before-rest : gathered n x ≡ heads ++ datas ++ tails ++ rest
-  before-rest = before-tails ∙ sym (append-assoc (heads ++ datas) tails rest)
+  pub all-first : gathered n x ≡ heads ++ datas ++ tails ++ rest
+  all-first = both-first ∙ sym (append-assoc (heads ++ datas) tails rest)
 
-  pub gathered-length : length (gathered n x) ≡ length x
-  gathered-length = let a = all-length in ap length before-rest ∙ rw (length-append (heads ++ datas ++ tails) rest, length-drop) (omega arith)
+  gathered-length : length (gathered n x) ≡ length x
+  gathered-length = let a = all-length in ap length all-first ∙ rw (length-append (heads ++ datas ++ tails) rest, length-drop) (omega arith)
 
-  pub scattered-length : length (scattered n x) ≡ length x
+  scattered-length : length (scattered n x) ≡ length x
   unfolding scattered
   scattered-length = let a = sectors-length in simp (length-append, length-drop) (omega arith)
 
@@ -133,18 +135,18 @@ module _ (n : ℕ) (x : List ℕ) (whole : n * rawSize ≤ length x) where
   sector-in : (k : ℕ) → k < n → sectorFrom n (gathered n x) k ≡ pieceFrom n 0 rawSize x k
   unfolding sectorFrom
   sector-in k q =
-      ap₂ (λ (a b : List ℕ). a ++ b) (piece-in 0 headSize (omega arith) [] (datas ++ (tails ++ rest)) (omega arith) before-heads k q)
-      (ap₂ (λ (a b : List ℕ). a ++ b) (piece-in headSize sectorSize (omega arith) heads (tails ++ rest) heads-length before-heads k q)
-      (piece-in tailOffset tailSize (omega arith) (heads ++ datas) rest both-length before-tails k q))
-      ∙ pieces-join n x k
+      let h = piece-in 0 headSize (omega arith) [] (datas ++ (tails ++ rest)) (omega arith) heads-first k q in
+      let d = piece-in headSize sectorSize (omega arith) heads (tails ++ rest) heads-length heads-first k q in
+      let t = piece-in tailOffset tailSize (omega arith) (heads ++ datas) rest both-length both-first k q in
+      (λ i. h i ++ (d i ++ t i)) ∙ pieces-join n x k
 
   -- "The way back restores each image of any length byte for byte."
   pub scatter-gathered : scattered n (gathered n x) ≡ x
   unfolding scattered
   scatter-gathered =
-      ap₂ (λ (a b : List ℕ). a ++ b) (blocks-same (sectorFrom n (gathered n x)) (pieceFrom n 0 rawSize x) n sector-in)
-      (ap (drop (n * rawSize)) before-rest ∙ drop-at (heads ++ datas ++ tails) rest (n * rawSize) all-length)
-      ∙ pieces-all n rawSize x
+      let s = blocks-same (sectorFrom n (gathered n x)) (pieceFrom n 0 rawSize x) n sector-in in
+      let r = ap (drop (n * rawSize)) all-first ∙ drop-at (heads ++ datas ++ tails) rest (n * rawSize) all-length in
+      (λ i. s i ++ r i) ∙ pieces-all n rawSize x
 
   -- ---- and forth
 
@@ -180,15 +182,13 @@ module _ (n : ℕ) (x : List ℕ) (whole : n * rawSize ≤ length x) where
   pub gather-scattered : gathered n (scattered n x) ≡ x
   unfolding gathered headOf dataOf tailOf sectorFrom
   gather-scattered =
-      let head = pieceFrom n 0 headSize x in
-      ap₂ (λ (a b : List ℕ). a ++ b) (blocks-same (pieceOf 0 headSize (scattered n x)) head n (λ k q. piece-out 0 headSize (omega arith) k q [] _ refl refl))
-      (ap₂ (λ (a b : List ℕ). a ++ b)
-      (blocks-same (pieceOf headSize sectorSize (scattered n x)) (pieceFrom n headSize sectorSize x) n
-      (λ k q. piece-out headSize sectorSize (omega arith) k q (head k) _ (from-length 0 headSize (omega arith) k q) refl))
-      (ap₂ (λ (a b : List ℕ). a ++ b) (blocks-same (pieceOf tailOffset tailSize (scattered n x)) (pieceFrom n tailOffset tailSize x) n tail-out) rest-out
-      ∙ pieces-then n tailOffset tailSize x)
-      ∙ pieces-then n headSize sectorSize x)
-      ∙ pieces-all n headSize x
+      let head = pieceFrom n 0 headSize x in let y = scattered n x in
+      let h = blocks-same (pieceOf 0 headSize y) head n (λ k q. piece-out 0 headSize (omega arith) k q [] _ refl refl) in
+      let d = blocks-same (pieceOf headSize sectorSize y) (pieceFrom n headSize sectorSize x) n
+      (λ k q. piece-out headSize sectorSize (omega arith) k q (head k) _ (from-length 0 headSize (omega arith) k q) refl) in
+      let t = blocks-same (pieceOf tailOffset tailSize y) (pieceFrom n tailOffset tailSize x) n tail-out in
+      (λ i. h i ++ (d i ++ (t i ++ rest-out i)))
+      ∙ rw (pieces-then n tailOffset tailSize x, pieces-then n headSize sectorSize x) (pieces-all n headSize x)
 
 -- ---- a call and the other
 
@@ -213,7 +213,7 @@ module _ (x old old′ : List ℕ) (same : length x ≡ length old) (same′ : l
       rw (eq-eqb (length x) (length old) same, eq-eqb (length (scattered n x)) (length old′) (e ∙ same′))
       (ap (λ (m : ℕ). gathered (sectorCount headerFormat m) (scattered n x)) e ∙ gather-scattered n x whole)
 
--- so with no refusal what is written is restored by the other call
+-- no refusal: the lengths are equal
 equal-lengths : (a b refusal : ℕ) → refusal ≡ lengthsRefusal a b → refusal ≡ 0 → a ≡ b
 unfolding lengthsRefusal
 equal-lengths a b refusal e none = go (ℕ-discrete a b)
@@ -222,6 +222,7 @@ equal-lengths a b refusal e none = go (ℕ-discrete a b)
     go (yes same) = same
     go (no differ) = absurd (let f = rw (ne-eqb a b differ) at (sym none ∙ e) in omega arith)
 
+-- so with no refusal the other call restores what was read
 module _ (x old written : List ℕ) (refusal : ℕ) (refused : refusal ≡ lengthsRefusal (length x) (length old)) where
   pub gather-restored : written ≡ gatherInto x old → refusal ≡ 0 → Restores scatterInto x written
   unfolding Restores

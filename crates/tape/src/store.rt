@@ -1,11 +1,10 @@
 // A format 2 image gathered for the tape store, all heads, all data, all tails, and scattered again. One pass over the image, sector by sector.
 ghost use mathlib.Core.Path.{_≡_};
 ghost use Prim.Native.Nat.{_+_, _*_, _≤_, _<_};
-ghost use mathlib.Core.Bool.{cond};
 ghost use lib.ListN.{length};
 ghost use Rattle.sectors.specs.Fill.{part, fill};
 ghost use Rattle.tape.specs.Store.{rawSize, lengthsRefusal, gatherInto, scatterInto, Restores};
-ghost use Rattle.tape.specs.Steps.{pieceCopied, sectorCopied};
+ghost use Rattle.tape.specs.Steps.{pieceCopied, sectorCopied, imageCopied};
 use sectors::bytes::copy_bytes;
 use sectors::header::HEADER_FORMAT;
 use sectors::sector::SECTOR_SIZE;
@@ -32,11 +31,21 @@ fn copy_part(from: &[u8], at: usize, to: &mut [u8], place: usize, size: usize)
     copy_bytes(&from[at..at + size], &mut to[place..place + size], 0);
 }
 
-// Copies a piece of a sector from its place in the image to that among gathered ones, or back.
-fn copy_piece(from: &[u8], to: &mut [u8], stored: usize, gathered: usize, size: usize, back: bool)
-    requires { ⌜ (stored + size ≤ length (now from)) × ((gathered + size ≤ length (now from)) × (length (now to) ≡ length (now from))) ⌝ }
-    ensures { λ r. ⌜ now (to .exit) ≡ pieceCopied back stored gathered size (now (from .entry)) (now (to .entry)) ⌝ }
+// Copies a piece of sector k of n, its bytes from an offset on, from its place in the image to that among gathered ones, or back.
+fn copy_piece(
+    from: &[u8],
+    to: &mut [u8],
+    n: usize,
+    k: usize,
+    offset: usize,
+    size: usize,
+    back: bool,
+)
+    requires { ⌜ (k < n) × ((n * rawSize ≤ length (now from)) × ((offset + size ≤ rawSize) × (length (now to) ≡ length (now from)))) ⌝ }
+    ensures { λ r. ⌜ now (to .exit) ≡ pieceCopied back n k offset size (now (from .entry)) (now (to .entry)) ⌝ }
 {
+    let stored = k * RAW_SIZE + offset;
+    let gathered = n * offset + k * size;
     if back {
         copy_part(from, gathered, to, stored, size);
     } else {
@@ -47,20 +56,17 @@ fn copy_piece(from: &[u8], to: &mut [u8], stored: usize, gathered: usize, size: 
 // Copies sector k of n, forth or back: its head, its data and its tail.
 fn copy_sector(from: &[u8], to: &mut [u8], n: usize, k: usize, back: bool)
     requires { ⌜ (k < n) × ((n * rawSize ≤ length (now from)) × (length (now to) ≡ length (now from))) ⌝ }
-    ensures { λ r. ⌜ now (to .exit) ≡ sectorCopied back n (now (from .entry)) k (now (to .entry)) ⌝ }
+    ensures { λ r. ⌜ now (to .exit) ≡ sectorCopied back n k (now (from .entry)) (now (to .entry)) ⌝ }
 {
-    let stored = k * RAW_SIZE;
-    let data = n * HEAD_SIZE + k * SECTOR_SIZE;
-    let tail = n * TAIL_OFFSET + k * TAIL_SIZE;
-    copy_piece(from, to, stored, k * HEAD_SIZE, HEAD_SIZE, back);
-    copy_piece(from, to, stored + HEAD_SIZE, data, SECTOR_SIZE, back);
-    copy_piece(from, to, stored + TAIL_OFFSET, tail, TAIL_SIZE, back);
+    copy_piece(from, to, n, k, 0, HEAD_SIZE, back);
+    copy_piece(from, to, n, k, HEAD_SIZE, SECTOR_SIZE, back);
+    copy_piece(from, to, n, k, TAIL_OFFSET, TAIL_SIZE, back);
 }
 
 // Copies all sectors, forth or back, and the rest as it came. A refusal changes nothing.
 fn copy_image(from: &[u8], to: &mut [u8], back: bool) -> u8
     ensures refusal { λ r. ⌜ r ≡ lengthsRefusal (length (now (from .entry))) (length (now (to .entry))) ⌝ }
-    ensures written { λ r. ⌜ now (to .exit) ≡ cond back (scatterInto (now (from .entry)) (now (to .entry))) (gatherInto (now (from .entry)) (now (to .entry))) ⌝ }
+    ensures written { λ r. ⌜ now (to .exit) ≡ imageCopied back (now (from .entry)) (now (to .entry)) ⌝ }
 {
     let size = from.len();
     if to.len() != size {

@@ -1,5 +1,6 @@
 -- `tape::store::gather_sectors` meets its contract: the copy of all sectors, whose other way restores them. Assumes nothing.
 use denote.Ref.{now}
+use Rattle.tape.specs.Steps.{imageCopied}
 use Rattle.tape.specs.StoreLaws.{gather-restored}
 use borrow.Author.Needs.{needs}
 use Rattle.tape.proofs.store.gather_sectors.Statement.{statement}
@@ -12,6 +13,7 @@ same-length : tie.Need-same-length
 same-length c = search needs
 
 returns : tie.Need-returns
+unfolding imageCopied
 returns c =
     let said = c .before .before .copy-image .ensures in let a = c .before .before .before .before .before .before .args in
     (said .0, (said .1, gather-restored (now (a .image)) (now (a .out)) _ _ (said .0) (said .1)))
