@@ -1,4 +1,4 @@
--- `tape::store::copy_piece` meets its contract: both places are inside, and by the way, one or the other copy. Assumes nothing.
+-- `tape::store::copy_piece` meets its contract: both places are inside, and the flag says which of the two copies is made. Assumes nothing.
 use native.Mathlib.Omega.{arith}
 use Rattle.tape.specs.Store.{pieceOf, pieceFrom}
 use Rattle.tape.specs.Steps.{pieceCopied}
