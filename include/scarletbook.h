@@ -335,10 +335,16 @@ typedef struct scarletbook_table_origin {
     uint16_t toc_sectors;
 } scarletbook_table_origin;
 
-/* Frame numbers of a track, 75 a second. */
+/*
+ * When a track starts and how long it lasts. The frame numbers, 75 a second, are capped at the play time of its
+ * area: where the stored start and duration together exceed it, the start is capped at it, the duration at what
+ * remains, and the track has warning 14. Else they are those of the stored timecodes.
+ */
 typedef struct scarletbook_track_times {
     uint32_t start_frame;
     uint32_t duration_frames;
+    scarletbook_timecode stored_start; /* as stored: seconds above 59 and frames above 74 too */
+    scarletbook_timecode stored_duration;
 } scarletbook_track_times;
 
 /* The place of a text's string in its table; 0 for an absent text. */

@@ -99,6 +99,8 @@ static void print_track_times(void)
     RECORD(track_times, scarletbook_track_times);
     FIELD(uint32_t, start_frame);
     FIELD(uint32_t, duration_frames);
+    FIELD(scarletbook_timecode, stored_start);
+    FIELD(scarletbook_timecode, stored_duration);
 }
 
 static void print_text_place(void)

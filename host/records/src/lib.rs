@@ -150,7 +150,7 @@ records! {
     "date" Date { year, month, day }
     "area_pointer" AreaPointer { toc1_lsn, toc2_lsn, toc_sectors }
     "table_origin" TableOrigin { slot, toc_lsn, toc_sectors }
-    "track_times" TrackTimes { start_frame, duration_frames }
+    "track_times" TrackTimes { start_frame, duration_frames, stored_start, stored_duration }
     "text_place" TextPlace { place }
     "comparison" Comparison { refusal, equal }
     "fingerprint_answer" FingerprintAnswer { refusal, digest }

@@ -215,12 +215,20 @@ impl Area {
     }
 }
 
-/// Frame numbers of a track.
+/// When a track starts and how long it lasts: capped at the play time of its area, and as stored.
+///
+/// Where the stored start and duration together exceed the play time, the start is capped at it,
+/// the duration at what remains, and the track has the warning `TrackPastPlaytime`. Else the two
+/// frame numbers are those of the stored timecodes.
 #[repr(C)]
 #[derive(Clone, Copy, Debug, Default, PartialEq, Eq)]
 pub struct TrackTimes {
     pub start_frame: Frame,
     pub duration_frames: Frame,
+    /// As stored, whatever its seconds and frames.
+    pub stored_start: Timecode,
+    /// As stored, whatever its seconds and frames.
+    pub stored_duration: Timecode,
 }
 
 /// A genre entry.
