@@ -1,12 +1,12 @@
 -- How large the numbers are that a table of bytes yields: those of its locales, of each track and of each warning. Assumes nothing.
 use Prim.Native.Nat.{ℕ, _+_, _*_, _^_, _≤_, _<_, min}
 use native.Mathlib.Omega.{arith}
-use mathlib.Core.Bool.{Bool, true, false, cond, not}
-use mathlib.Core.List.{List, _++_, List·Memᴰ, List·Memᴰ·append-cases}
-use mathlib.Core.Logic.{_⊎_, inl, inr}
-use mathlib.Core.Path.{_≡_, sym, ap, subst}
+use mathlib.Core.Bool.{Bool, true, false, cond}
+use mathlib.Core.List.{List, List·Memᴰ}
+use mathlib.Core.Logic.{inl, inr}
+use mathlib.Core.Path.{_≡_, sym, subst}
 use borrow.Author.Tests.{eq-eqb}
-use lib.Dec.{ltb, eqb}
+use lib.Dec.{ltb}
 use lib.ListN.{length, getD}
 use Rattle.sectors.specs.Number.{beAt}
 use Rattle.sectors.specs.NumberLaws.{be-below}
@@ -15,16 +15,15 @@ use Rattle.area.specs.Chain.{chainOf}
 use Rattle.area.specs.Limits.{maxTracks, maxHeadWarnings, maxTrackWarnings}
 use Rattle.area.specs.Locale.{maxLocales, codeAt, localeAt, noLocale, localeOr, localesAt}
 use Rattle.area.specs.Skip.{skipOf}
-use Rattle.area.specs.Table.{ofSlot, dsd64, frequencyWarnings, trackWarnings, readsOf, tracksOf, tracksWarnings, yieldOf, tableOf, areaGiven, tracksGiven, warningsOf}
+use Rattle.area.specs.Table.{readsOf, tracksOf, yieldOf, tableOf, areaGiven, tracksGiven, warningsOf}
 use Rattle.area.specs.TableLaws.{tracks-most, warnings-most}
-use Rattle.area.specs.Tabulate.{tabulate}
 use Rattle.area.specs.TabulateLaws.{length-tabulate, map-tabulate}
 use Rattle.area.specs.Timecode.{timecodeAt, frameNumber}
 use Rattle.area.specs.Track.{trackOf}
 use Rattle.area.specs.TrackLaws.{track-within}
 use Rattle.area.specs.Units.{lsnAt}
 use Rattle.area.specs.Warning.{sampleFrequencyUnknown}
-use Rattle.area.specs.WarningLaws.{in-when, track-warnings-of, flat-member, tabulate-member, TableCode, table-codes}
+use Rattle.area.specs.WarningLaws.{tabulate-member, TableCode, table-codes, table-warnings-of}
 use Rattle.area.specs.declared.area.Area.{Area}
 use Rattle.area.specs.declared.locale.Locale.{Locale}
 use Rattle.area.specs.declared.track.Track.{Track}
@@ -101,26 +100,6 @@ module _ (table : List ℕ) (bytes : (i : ℕ) → getD table i 0 < 256) where
         let found = tabulate-member count (λ k. read k .track) (subst (List·Memᴰ t) (map-tabulate (λ (r : TrackRead). r .track) count read) m) in
         subst SmallTrack (sym (found .1 .1)) (small-track (found .0) (found .1 .0))
 
-    -- a warning is of the slot, and of a track that there is, or of none
-    abbrev Of : Warning → Type 0
-    Of w = (w .slot ≡ slot) × (w .track ≤ maxTracks)
-
-    warnings-of : (w : Warning) → List·Memᴰ w (frequencyWarnings slot area ++ tracksWarnings slot (readsOf table area (chainOf table))) → Of w
-    unfolding frequencyWarnings ofSlot tracksWarnings readsOf trackOf
-    warnings-of w m = go (List·Memᴰ·append-cases (frequencyWarnings slot area) m)
-      where
-        go : List·Memᴰ w (frequencyWarnings slot area) ⊎ List·Memᴰ w (tracksWarnings slot (readsOf table area (chainOf table))) → Of w
-        go (inl h) =
-            let is = in-when w (not (eqb (area .«sample_frequency_code») dsd64)) (ofSlot sampleFrequencyUnknown slot) h in
-            let track = ap (λ (x : Warning). x .track) is in (ap (λ (x : Warning). x .slot) is, omega (arith, track))
-        go (inr h) =
-            let found = flat-member (trackWarnings slot) (tabulate count read) h in
-            let its = track-warnings-of slot (found .0) w (found .1 .1) in
-            let entry = tabulate-member count read (found .1 .0) in
-            let below = entry .1 .0 in
-            let number = ap (λ (r : TrackRead). r .track .number) (entry .1 .1) in
-            (its .0, omega (arith, its .1, number))
-
     code-few : (n : ℕ) → TableCode n → n ≤ sampleFrequencyUnknown
     code-few n (inl e) = omega (arith, e .1)
     code-few n (inr e) = omega (arith, e)
@@ -135,10 +114,6 @@ module _ (table : List ℕ) (bytes : (i : ℕ) → getD table i 0 < 256) where
       unfolding tableOf yieldOf tracksGiven
       tracks-are = rw (eq-eqb (skipOf table) 0 kept)
 
-      warnings-are : warningsOf (tableOf table slot sectors) ≡ frequencyWarnings slot area ++ tracksWarnings slot (readsOf table area (chainOf table))
-      unfolding tableOf yieldOf warningsOf
-      warnings-are = rw (eq-eqb (skipOf table) 0 kept)
-
     pub kept-bounded : (lsn : ℕ) → skipOf table ≡ 0
         → Bounds slot (addressed lsn (areaGiven (tableOf table slot sectors))) (tracksGiven (tableOf table slot sectors)) (warningsOf (tableOf table slot sectors))
     unfolding addressed recordOf localesAt
@@ -152,6 +127,6 @@ module _ (table : List ℕ) (bytes : (i : ℕ) → getD table i 0 < 256) where
           small-tracks = rw (tracks-are kept) tracks-small;
           few-warnings = warnings-most table slot sectors;
           small-warnings = λ w m.
-              let of = warnings-of w (subst (List·Memᴰ w) (warnings-are kept) m) in
+              let of = table-warnings-of table slot sectors w m in
               record { its-code = code-few (w .code) (table-codes table slot sectors w m); its-slot = of .0; its-track = of .1 };
         }

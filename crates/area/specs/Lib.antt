@@ -24,6 +24,9 @@ pub mod Track
 pub mod TrackLaws
 pub mod Table
 pub mod WarningLaws
+pub mod Capping
+pub mod StandsLaws
+pub mod CappingLaws
 pub mod BoundLaws
 pub mod TableLaws
 pub mod ServeLaws

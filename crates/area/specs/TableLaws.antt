@@ -19,9 +19,8 @@ use Rattle.area.specs.Limits.{maxTracks, maxHeadWarnings, maxTrackWarnin
 use Rattle.area.specs.Chain.{chainOf}
 use Rattle.area.specs.Area.{trackCountOffset, recordOf, addressed, noArea}
 use Rattle.area.specs.Skip.{skipOf}
-use Rattle.area.specs.Timecode.{frameNumber}
 use Rattle.area.specs.Track.{trackOf, noTrack}
-use Rattle.area.specs.TrackLaws.{track-within, track-number}
+use Rattle.area.specs.TrackLaws.{track-number}
 use Rattle.area.specs.Warning.{trackPastPlaytime, trackLsnOutsideArea, sampleFrequencyUnknown}
 use Rattle.area.specs.Table.{Table, skips, yields, ofSlot, dsd64, ofTrack, frequencyWarnings, trackWarnings, readsOf, tracksOf, tracksWarnings, yieldOf, tableOf, withAddress, areaOf, areaGiven, tracksGiven, warningsOf, headOf, noHead, headWarnings, trackCount, readIn, readsIn, tracksIn, warningsIn}
 use Rattle.area.specs.declared.area.Area.{Area}
@@ -212,13 +211,9 @@ module _ (lent : List ℕ) (head : TableHead) where
   warnings-in = refl
 
 -- ---- what a table yields, for the layer above
--- a track that ends within a frame number
-abbrev EndsWithin : Track → ℕ → Type 0
-EndsWithin t end = t .times .«start_frame» .0 + t .times .«duration_frames» .0 ≤ end
-
 module _ (table : List ℕ) (slot sectors : ℕ) where
   -- a property of what a table gives holds if it holds of both cases
-  by-skip : (P : Table → Type 0) → ((skipOf table ≡ 0 → ⊥) → P (skips (ofSlot (skipOf table) slot)))
+  pub by-skip : (P : Table → Type 0) → ((skipOf table ≡ 0 → ⊥) → P (skips (ofSlot (skipOf table) slot)))
       → (skipOf table ≡ 0 → P (yieldOf slot (recordOf table slot sectors) (readsOf table (recordOf table slot sectors) (chainOf table)))) → P (tableOf table slot sectors)
   unfolding tableOf
   by-skip P skipped kept = go (eqb (skipOf table) 0) refl
@@ -263,20 +258,6 @@ module _ (table : List ℕ) (slot sectors : ℕ) where
       let n = reads-length in let m = length-append frequency (tracksWarnings slot reads) in
       let p = when-few (not (eqb (recordOf table slot sectors .«sample_frequency_code») dsd64)) (ofSlot sampleFrequencyUnknown slot) in
       let q = tracks-warnings-few slot reads in omega arith)
-
-  -- of every track that is yielded start plus duration is at most the play time
-  pub tracks-within : (i : ℕ) → i < length (tracksGiven (tableOf table slot sectors))
-      → getD (tracksGiven (tableOf table slot sectors)) i noTrack .times .«start_frame» .0 + getD (tracksGiven (tableOf table slot sectors)) i noTrack .times .«duration_frames» .0
-      ≤ frameNumber (areaGiven (tableOf table slot sectors) .playtime) .0
-  unfolding tracksGiven areaGiven yieldOf tracksOf readsOf
-  tracks-within i =
-      by-skip (λ t. i < length (tracksGiven t) → EndsWithin (getD (tracksGiven t) i noTrack) (frameNumber (areaGiven t .playtime) .0)) (λ skipped below. absurd (omega arith))
-      (λ kept below.
-      let area = recordOf table slot sectors in let n = min (area .«track_count») maxTracks in let f = trackOf table area (chainOf table) in
-      let all = map-tabulate (λ (read : TrackRead). read .track) n f in
-      let few = ap length all ∙ length-tabulate n (λ k. f k .track) in
-      subst (λ (t : Track). EndsWithin t (frameNumber (area .playtime) .0)) (sym (ap (λ (l : List Track). getD l i noTrack) all ∙ tabulate-at n (λ k. f k .track) i noTrack (omega arith)))
-      (track-within table area (chainOf table) i))
 
   -- tracks are numbered from 1
   pub tracks-numbered : (i : ℕ) → i < length (tracksGiven (tableOf table slot sectors)) → getD (tracksGiven (tableOf table slot sectors)) i noTrack .number ≡ i + 1
