@@ -2,3 +2,4 @@ pub mod Elem
 pub mod Filling
 pub mod Keeping
 pub mod Walking
+pub mod Consequences

@@ -1,12 +1,16 @@
 -- The capping rule as a fact of a yielded track (02, item 4), over its own record and the warnings of its reading. That it holds of every track
 -- is proved in `CappingLaws`. Assumes nothing.
-use Prim.Native.Nat.{ℕ, _+_, _≤_, _<_}
-use mathlib.Core.List.{List}
+use Prim.Native.Nat.{ℕ, _+_, _≤_, _<_, min}
+use mathlib.Core.List.{List, List·Memᴰ}
 use mathlib.Core.Path.{_≡_}
 use lib.ListN.{length, getD}
+use Rattle.sectors.specs.Fill.{part}
 use Rattle.area.specs.Cap.{capOf}
+use Rattle.area.specs.Limits.{maxTracks}
+use Rattle.area.specs.Lone.{loneSlot}
 use Rattle.area.specs.Timecode.{frameNumber}
-use Rattle.area.specs.Warning.{trackPastPlaytime}
+use Rattle.area.specs.Warning.{wordOf, trackPastPlaytime}
+use Rattle.area.specs.declared.lone.TableAnswer.{TableAnswer}
 use Rattle.area.specs.declared.timecode.Frame.{Frame}
 use Rattle.area.specs.declared.timecode.Timecode.{Timecode}
 use Rattle.area.specs.declared.track.Track.{Track}
@@ -45,3 +49,9 @@ pub record Capping {W : Type 0} (written : Warning → W) (warnings : List W) (s
   pub only : (place : ℕ) → Stands (written (pastPlaytime slot (t .number))) warnings place → SumExceeds playtime t
   pub once : (place place′ : ℕ) → Stands (written (pastPlaytime slot (t .number))) warnings place
       → Stands (written (pastPlaytime slot (t .number))) warnings place′ → place ≡ place′
+
+-- of every track that an accepted reading of a lone table hands back: "tracks of a yielded area fill records from 0", "the warnings fill the first
+-- words", and "a track count above 255" counts "as 255"
+abbrev pub LoneCapped : TableAnswer → List Track → List ℕ → Type 0
+LoneCapped answer tracks words = answer .refusal ≡ 0 → (t : Track) → List·Memᴰ t (part 0 (min (answer .area .«track_count») maxTracks) tracks)
+    → Capping wordOf (part 0 (answer .warnings) words) loneSlot (answer .area .playtime) t

@@ -1,27 +1,34 @@
 -- Every track that a table yields keeps to the capping rule. Of its own warnings 14 is the first or none; among those of its table, and as a word, it
 -- has its places as there (`StandsLaws`). Assumes nothing.
-use Prim.Native.Nat.{ℕ, _+_, _<_, min}
+use Prim.Native.Nat.{ℕ, _+_, _*_, _≤_, _<_, min}
+use native.Mathlib.Decide.{ℕ-discrete}
 use native.Mathlib.Omega.{arith}
 use mathlib.Core.Bool.{Bool, true, false, not, false≢true}
-use mathlib.Core.List.{List, _++_, flatMap, List·Memᴰ, List·Memᴰ·not-nil}
+use mathlib.Core.List.{List, _++_, map, flatMap, List·Memᴰ, List·Memᴰ·not-nil}
 use mathlib.Core.Path.{_≡_, refl, sym, ap, _∙_, subst}
 use borrow.Author.Tests.{lt-ltb, ltb-true}
 use lib.Dec.{eqb}
-use Rattle.area.specs.Area.{recordOf}
+use lib.ListN.{length, length-map}
+use Rattle.sectors.specs.Fill.{part, fill}
+use Rattle.sectors.specs.FillLaws.{part-filled}
+use Rattle.area.specs.Area.{recordOf, addressed}
 use Rattle.area.specs.Cap.{exceeds}
-use Rattle.area.specs.Capping.{storedStart, storedDuration, pastPlaytime, Stands, Capping}
+use Rattle.area.specs.Capping.{storedStart, storedDuration, pastPlaytime, Stands, Capping, LoneCapped}
 use Rattle.area.specs.Chain.{chainOf}
 use Rattle.area.specs.Lent.{whenTrue}
 use Rattle.area.specs.Limits.{maxTracks}
-use Rattle.area.specs.StandsLaws.{Moved, moved-then, moved-front, moved-behind, moved-flat}
-use Rattle.area.specs.Table.{ofSlot, dsd64, ofTrack, frequencyWarnings, trackWarnings, readsOf, tracksOf, tracksWarnings, yieldOf, tableOf, areaGiven, tracksGiven, warningsOf}
-use Rattle.area.specs.TableLaws.{by-skip}
+use Rattle.area.specs.Lone.{isOddTable, isShort, loneSlot, loneSectors, Lone, reads, loneOf, loneAnswer, loneTracks, loneWords}
+use Rattle.area.specs.LoneLaws.{lone-odd, lone-short, lone-reads, enough-records, enough-words}
+use Rattle.area.specs.Skip.{skipOf}
+use Rattle.area.specs.StandsLaws.{Moved, moved-then, moved-front, moved-behind, moved-map, moved-flat}
+use Rattle.area.specs.Table.{Table, withAddress, areaOf, ofSlot, dsd64, ofTrack, frequencyWarnings, trackWarnings, readsOf, tracksOf, tracksWarnings, yieldOf, tableOf, areaGiven, tracksGiven, warningsOf, yields}
+use Rattle.area.specs.TableLaws.{by-skip, area-of, address-tracks, address-warnings, address-playtime, tracks-count, tracks-most, warnings-most, head-skips, area-yields, addressed-track-count, addressed-playtime}
 use Rattle.area.specs.Tabulate.{tabulate}
 use Rattle.area.specs.TabulateLaws.{map-tabulate}
 use Rattle.area.specs.Track.{cappedTimes, timesOf, trackOf}
 use Rattle.area.specs.TrackLaws.{track-within, track-warned, track-number, text-not-past}
-use Rattle.area.specs.Warning.{trackPastPlaytime, trackLsnOutsideArea, sampleFrequencyUnknown}
-use Rattle.area.specs.WarningLaws.{in-when, track-warnings-of, tabulate-member}
+use Rattle.area.specs.Warning.{wordOf, trackPastPlaytime, trackLsnOutsideArea, sampleFrequencyUnknown}
+use Rattle.area.specs.WarningLaws.{word-value, in-when, track-warnings-of, tabulate-member, table-warnings-of}
 use Rattle.area.specs.declared.area.Area.{Area}
 use Rattle.area.specs.declared.chain.Chain.{Chain}
 use Rattle.area.specs.declared.timecode.Timecode.{Timecode}
@@ -126,14 +133,119 @@ module _ (table : List ℕ) (area : Area) (chain : Chain) (slot : ℕ) where
 
 -- ---- of every track that a table yields
 
-pub table-capping : (table : List ℕ) (slot sectors : ℕ) (t : Track) → List·Memᴰ t (tracksGiven (tableOf table slot sectors))
-    → Capping (λ w. w) (warningsOf (tableOf table slot sectors)) slot (areaGiven (tableOf table slot sectors) .playtime) t
-unfolding yieldOf tracksGiven areaGiven warningsOf tracksOf readsOf tracksWarnings
-table-capping table slot sectors t =
-    by-skip table slot sectors (λ x. List·Memᴰ t (tracksGiven x) → Capping (λ w. w) (warningsOf x) slot (areaGiven x .playtime) t)
-    (λ skipped m. absurd (List·Memᴰ·not-nil m))
-    (λ kept m.
-    let area = recordOf table slot sectors in let n = min (area .«track_count») maxTracks in let read = trackOf table area (chainOf table) in
-    let found = tabulate-member n (λ k. read k .track) (subst (List·Memᴰ t) (map-tabulate (λ (r : TrackRead). r .track) n read) m) in
-    subst (Capping (λ w. w) (frequencyWarnings slot area ++ flatMap (trackWarnings slot) (tabulate n read)) slot (area .playtime)) (sym (found .1 .1))
-    (capping-read table area (chainOf table) slot n (found .0) (found .1 .0)))
+module _ (table : List ℕ) (slot sectors : ℕ) where
+  -- it is one of those that are read
+  every-track : (P : Table → Track → Type 0)
+      → ((i : ℕ) → i < min (recordOf table slot sectors .«track_count») maxTracks
+      → P (yieldOf slot (recordOf table slot sectors) (readsOf table (recordOf table slot sectors) (chainOf table)))
+      (trackOf table (recordOf table slot sectors) (chainOf table) i .track))
+      → (t : Track) → List·Memᴰ t (tracksGiven (tableOf table slot sectors)) → P (tableOf table slot sectors) t
+  unfolding yieldOf tracksGiven tracksOf readsOf
+  every-track P holds t =
+      by-skip table slot sectors (λ x. List·Memᴰ t (tracksGiven x) → P x t) (λ skipped m. absurd (List·Memᴰ·not-nil m)) (λ kept m.
+      let area = recordOf table slot sectors in let n = min (area .«track_count») maxTracks in let read = trackOf table area (chainOf table) in
+      let found = tabulate-member n (λ k. read k .track) (subst (List·Memᴰ t) (map-tabulate (λ (r : TrackRead). r .track) n read) m) in
+      subst (P (yieldOf slot area (readsOf table area (chainOf table)))) (sym (found .1 .1)) (holds (found .0) (found .1 .0)))
+
+  pub table-capping : (t : Track) → List·Memᴰ t (tracksGiven (tableOf table slot sectors))
+      → Capping (λ w. w) (warningsOf (tableOf table slot sectors)) slot (areaGiven (tableOf table slot sectors) .playtime) t
+  unfolding yieldOf areaGiven warningsOf readsOf tracksWarnings
+  table-capping =
+      every-track (λ x t. Capping (λ w. w) (warningsOf x) slot (areaGiven x .playtime) t) (λ i below.
+      let area = recordOf table slot sectors in capping-read table area (chainOf table) slot (min (area .«track_count») maxTracks) i below)
+
+  pub number-most : (t : Track) → List·Memᴰ t (tracksGiven (tableOf table slot sectors)) → t .number ≤ maxTracks
+  number-most =
+      every-track (λ x t. t .number ≤ maxTracks) (λ i below. omega (arith, track-number table (recordOf table slot sectors) (chainOf table) i))
+
+  -- .. at any address
+  module _ (lsn : ℕ) (t : Track) (m : List·Memᴰ t (tracksGiven (areaOf table slot lsn sectors))) where
+    abbrev there : areaOf table slot lsn sectors ≡ withAddress lsn (tableOf table slot sectors)
+    there = area-of table slot lsn sectors
+
+    abbrev m′ : List·Memᴰ t (tracksGiven (tableOf table slot sectors))
+    m′ = subst (List·Memᴰ t) (ap tracksGiven there ∙ address-tracks lsn (tableOf table slot sectors)) m
+
+    pub area-capping : Capping (λ w. w) (warningsOf (areaOf table slot lsn sectors)) slot (areaGiven (areaOf table slot lsn sectors) .playtime) t
+    area-capping =
+        let own = tableOf table slot sectors in
+        rw (there, address-warnings lsn own, address-playtime lsn own) (table-capping t m′)
+
+-- ---- as words
+
+-- a warning whose slot and track are bytes has its own word
+word-own : (x y : Warning) → x .slot < 256 → x .track < 256 → y .slot < 256 → y .track < 256 → wordOf x ≡ wordOf y → x ≡ y
+word-own x y a b c d e = λ i. record { code = code i; slot = slot i; track = track i }
+  where
+    same : x .code * 65536 + x .slot * 256 + x .track ≡ y .code * 65536 + y .slot * 256 + y .track
+    same = sym (word-value x) ∙ e ∙ word-value y
+
+    code : x .code ≡ y .code
+    code = omega (arith, same)
+
+    slot : x .slot ≡ y .slot
+    slot = omega (arith, same)
+
+    track : x .track ≡ y .track
+    track = omega (arith, same)
+
+pub capping-words : (warnings : List Warning) (slot : ℕ) (playtime : Timecode) (t : Track) → slot < 256 → t .number < 256
+    → ((w : Warning) → List·Memᴰ w warnings → (w .slot < 256) × (w .track < 256))
+    → Capping (λ w. w) warnings slot playtime t → Capping wordOf (map wordOf warnings) slot playtime t
+unfolding pastPlaytime
+capping-words warnings slot playtime t few few′ bytes =
+    capping-moved slot playtime t (moved-map wordOf (pastPlaytime slot (t .number)) warnings (λ w m e.
+    word-own w (pastPlaytime slot (t .number)) (bytes w m .0) (bytes w m .1) few few′ e))
+
+-- ---- of every track that a reading of a lone table hands back
+
+module _ (table : List ℕ) (tracks : List Track) (words : List ℕ) where
+  abbrev Holds : Lone → Type 0
+  Holds lone = LoneCapped (loneAnswer lone) (loneTracks lone tracks) (loneWords lone words)
+
+  module _ (room : isShort (length tracks) (length words) ≡ false) where
+    -- the table, as it is without an address
+    abbrev own : Table
+    own = tableOf table loneSlot (loneSectors table)
+
+    abbrev all : List Warning
+    all = warningsOf own
+
+    tracks-back : part 0 (min (addressed 0 (areaGiven own) .«track_count») maxTracks) (fill 0 (tracksGiven own) tracks) ≡ tracksGiven own
+    tracks-back =
+        let few = tracks-most table loneSlot (loneSectors table) in let enough = enough-records (length tracks) (length words) room in
+        ap (λ (n : ℕ). part 0 n (fill 0 (tracksGiven own) tracks))
+        (ap (λ (n : ℕ). min n maxTracks) (addressed-track-count 0 (areaGiven own)) ∙ sym (tracks-count table loneSlot (loneSectors table)))
+        ∙ part-filled 0 (tracksGiven own) tracks (omega arith)
+
+    words-back : part 0 (length all) (fill 0 (map wordOf all) words) ≡ map wordOf all
+    words-back =
+        let few = warnings-most table loneSlot (loneSectors table) in let enough = enough-words (length tracks) (length words) room in let n = length-map all wordOf in
+        ap (λ (n : ℕ). part 0 n (fill 0 (map wordOf all) words)) (sym n) ∙ part-filled 0 (map wordOf all) words (omega arith)
+
+    kept-capped : Holds (reads (yields (addressed 0 (areaGiven own)) (tracksGiven own) all))
+    unfolding loneAnswer loneTracks loneWords warningsOf
+    kept-capped accepted t m =
+        let m′ = subst (List·Memᴰ t) tracks-back m in let number = number-most table loneSlot (loneSectors table) t m′ in
+        rw (words-back, addressed-playtime 0 (areaGiven own))
+        (capping-words all loneSlot (areaGiven own .playtime) t (omega arith) (omega arith) (λ w h.
+        let of = table-warnings-of table loneSlot (loneSectors table) w h in let slot = of .0 in let track = of .1 in (omega arith, omega arith))
+        (table-capping table loneSlot (loneSectors table) t m′))
+
+    read-capped : Dec (skipOf table ≡ 0) → Holds (reads (areaOf table loneSlot 0 (loneSectors table)))
+    unfolding loneAnswer
+    read-capped (yes kept) = subst (λ (x : Table). Holds (reads x)) (sym (area-yields table loneSlot 0 (loneSectors table) kept)) kept-capped
+    read-capped (no skipped) =
+        subst (λ (x : Table). Holds (reads x)) (sym (head-skips table loneSlot 0 (loneSectors table) skipped)) (λ e. absurd (omega (arith, e)))
+
+  pub lone-capped : Holds (loneOf table (length tracks) (length words))
+  unfolding loneAnswer
+  lone-capped = by-size (isOddTable (length table)) refl
+    where
+      by-room : isOddTable (length table) ≡ false → (z : Bool) → isShort (length tracks) (length words) ≡ z → Holds (loneOf table (length tracks) (length words))
+      by-room sized true z = subst Holds (sym (lone-short table (length tracks) (length words) sized z)) (λ e. absurd (omega (arith, e)))
+      by-room sized false z = subst Holds (sym (lone-reads table (length tracks) (length words) sized z)) (read-capped z (ℕ-discrete (skipOf table) 0))
+
+      by-size : (z : Bool) → isOddTable (length table) ≡ z → Holds (loneOf table (length tracks) (length words))
+      by-size true z = subst Holds (sym (lone-odd table (length tracks) (length words) z)) (λ e. absurd (omega (arith, e)))
+      by-size false z = by-room z (isShort (length tracks) (length words)) refl

@@ -1,8 +1,14 @@
--- What is written into lent words. Assumes nothing.
+-- Lent lists, and what is written into them. Assumes nothing.
 use Prim.Native.Nat.{ℕ, _+_, _-_, min}
 use mathlib.Core.Bool.{Bool, true, false}
 use mathlib.Core.List.{List, [], _∷_}
+use denote.Ref.{RefT}
+use denote.Triple.Both.{Both}
 use lib.ListN.{length}
+
+-- a lent list, as a call finds it and as it leaves it
+abbrev pub Lent : Type 0 → Type 0
+Lent A = Both (RefT (List A)) (RefT (List A))
 
 module _ {A : Type 0} where
   -- one element or none

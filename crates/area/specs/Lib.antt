@@ -24,9 +24,6 @@ pub mod Track
 pub mod TrackLaws
 pub mod Table
 pub mod WarningLaws
-pub mod Capping
-pub mod StandsLaws
-pub mod CappingLaws
 pub mod BoundLaws
 pub mod TableLaws
 pub mod ServeLaws
@@ -37,3 +34,7 @@ pub mod TextDecode
 pub mod TextDecodeLaws
 pub mod Cursor
 pub mod CursorLaws
+pub mod Capping
+pub mod StandsLaws
+pub mod CappingLaws
+pub mod CappingCalls

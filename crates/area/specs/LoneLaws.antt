@@ -62,6 +62,16 @@ pub lone-room : isShort maxTracks tableWords ≡ false
 unfolding isShort
 lone-room = refl
 
+-- what is not short has as many
+module _ (records words : ℕ) (room : isShort records words ≡ false) where
+  pub enough-records : maxTracks ≤ records
+  unfolding isShort
+  enough-records = ltb-false records maxTracks (or-left _ _ room)
+
+  pub enough-words : tableWords ≤ words
+  unfolding isShort
+  enough-words = ltb-false words tableWords (or-right (ltb records maxTracks) _ room)
+
 module _ (table : List ℕ) (records words : ℕ) where
   pub lone-odd : isOddTable (length table) ≡ true → loneOf table records words ≡ refused oddTable
   unfolding loneOf
@@ -126,14 +136,6 @@ module _ (table : List ℕ) (tracks : List Track) (words : List ℕ) (plan : Pla
   short-words sized short = w ∙ simp (sized, short)
 
   module _ (sized : isOddTable (length table) ≡ false) (room : isShort (length tracks) (length words) ≡ false) where
-    enough-tracks : maxTracks ≤ length tracks
-    unfolding isShort
-    enough-tracks = ltb-false (length tracks) maxTracks (or-left _ _ room)
-
-    enough-words : tableWords ≤ length words
-    unfolding isShort
-    enough-words = ltb-false (length words) tableWords (or-right (ltb (length tracks) maxTracks) _ room)
-
     planned-so : plan ≡ planned (loneHead table)
     unfolding planOf loneHead
     planned-so = p ∙ simp (sized, room)
@@ -162,7 +164,7 @@ module _ (table : List ℕ) (tracks : List Track) (words : List ℕ) (plan : Pla
 
     few : length first + length rest ≤ length words
     few =
-        let h = head-warnings-few loneSlot (loneHead table) in let k = warnings-few table (loneHead table) in let m = enough-words in omega arith
+        let h = head-warnings-few loneSlot (loneHead table) in let k = warnings-few table (loneHead table) in let m = enough-words (length tracks) (length words) room in omega arith
 
     noted-run : noted ≡ sets words 0 (map wordOf first)
     noted-run = let k = few in noted-so ∙ sym (sets-fill 0 (map wordOf first) words (omega (arith, length-map first wordOf)))
@@ -177,7 +179,7 @@ module _ (table : List ℕ) (tracks : List Track) (words : List ℕ) (plan : Pla
     all-filled : filled ≡ fill 0 (tracksIn table (loneHead table)) tracks
     unfolding planned
     all-filled =
-        let k = tracks-few table (loneHead table) in let m = enough-tracks in
+        let k = tracks-few table (loneHead table) in let m = enough-records (length tracks) (length words) room in
         t ∙ ap (λ (q : Plan). sets tracks 0 (tracksIn table (q .head))) planned-so ∙ sets-fill 0 (tracksIn table (loneHead table)) tracks (omega arith)
 
     all-written : written ≡ fill 0 (map wordOf (first ++ rest)) words

@@ -331,6 +331,11 @@ module _ (lsn : ℕ) where
   address-warnings (skips warning) = refl
   address-warnings (yields area tracks warnings) = refl
 
+  pub address-playtime : (t : Table) → areaGiven (withAddress lsn t) .playtime ≡ areaGiven t .playtime
+  unfolding withAddress areaGiven addressed
+  address-playtime (skips warning) = refl
+  address-playtime (yields area tracks warnings) = refl
+
   pub addressed-at : (a : Area) → addressed lsn a .origin .«toc_lsn» .0 ≡ lsn
   unfolding addressed
   addressed-at a = refl
@@ -352,6 +357,10 @@ module _ (lsn : ℕ) where
   pub addressed-track-count : (a : Area) → addressed lsn a .«track_count» ≡ a .«track_count»
   unfolding addressed
   addressed-track-count a = refl
+
+  pub addressed-playtime : (a : Area) → addressed lsn a .playtime ≡ a .playtime
+  unfolding addressed
+  addressed-playtime a = refl
 
   pub addressed-sectors : (a : Area) → addressed lsn a .origin .«toc_sectors» ≡ a .origin .«toc_sectors»
   unfolding addressed
