@@ -36,6 +36,11 @@ use Rattle.area.specs.declared.track.Track.{Track}
 use Rattle.area.specs.declared.track.TrackRead.{TrackRead}
 use Rattle.area.specs.declared.warning.Warning.{Warning}
 
+-- warning 14 of a track
+pub past-playtime : (slot number : ℕ) → pastPlaytime slot number ≡ record { code = trackPastPlaytime; slot = slot; track = number }
+unfolding pastPlaytime
+past-playtime slot number = refl
+
 -- What is so by one list of warnings is so by another in which the track's 14 stands as there.
 module _ {A B : Type 0} {f : Warning → A} {vs : List A} {g : Warning → B} {ws : List B} (slot : ℕ) (playtime : Timecode) (t : Track) where
   pub capping-moved : Moved (f (pastPlaytime slot (t .number))) vs (g (pastPlaytime slot (t .number))) ws
@@ -154,7 +159,7 @@ module _ (table : List ℕ) (slot sectors : ℕ) where
       every-track (λ x t. Capping (λ w. w) (warningsOf x) slot (areaGiven x .playtime) t) (λ i below.
       let area = recordOf table slot sectors in capping-read table area (chainOf table) slot (min (area .«track_count») maxTracks) i below)
 
-  pub number-most : (t : Track) → List·Memᴰ t (tracksGiven (tableOf table slot sectors)) → t .number ≤ maxTracks
+  number-most : (t : Track) → List·Memᴰ t (tracksGiven (tableOf table slot sectors)) → t .number ≤ maxTracks
   number-most =
       every-track (λ x t. t .number ≤ maxTracks) (λ i below. omega (arith, track-number table (recordOf table slot sectors) (chainOf table) i))
 
@@ -170,6 +175,9 @@ module _ (table : List ℕ) (slot sectors : ℕ) where
     area-capping =
         let own = tableOf table slot sectors in
         rw (there, address-warnings lsn own, address-playtime lsn own) (table-capping t m′)
+
+    pub area-number : t .number ≤ maxTracks
+    area-number = number-most t m′
 
 -- ---- as words
 

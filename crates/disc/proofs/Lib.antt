@@ -1,2 +1,2 @@
 pub mod Spelled
-pub mod Demanded
+pub mod Consequences

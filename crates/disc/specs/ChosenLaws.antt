@@ -228,6 +228,18 @@ unfolding yieldedBy
 given-tracks bytes (Area.skips warning) x e = absurd (no-some refl e)
 given-tracks bytes (Area.yields area tracks warnings) x e = ap (λ (y : Yielded). y .tracks) (sym (some-eq e)) ∙ sym (yields-tracks area tracks warnings)
 
+-- .. so is what a slot yields of a copy
+module _ (slot : Slot) (y : Yielded) where
+  pub yielded-area : (x : Option Copy) → yieldedIn slot x ≡ some y → y .area ≡ areaIn (tableIn slot x)
+  unfolding yieldedIn areaFrom placeOf tableIn areaIn
+  yielded-area none e = absurd (no-some refl e)
+  yielded-area (some c) e = given-area (c .bytes) _ y e
+
+  pub yielded-tracks : (x : Option Copy) → yieldedIn slot x ≡ some y → y .tracks ≡ tracksIn (tableIn slot x)
+  unfolding yieldedIn areaFrom placeOf tableIn tracksIn
+  yielded-tracks none e = absurd (no-some refl e)
+  yielded-tracks (some c) e = given-tracks (c .bytes) _ y e
+
 -- ---- "Either signature serves either slot.": of two copies that differ in their signatures alone, each one of the two, the rules give an area
 -- for both or for neither, with the same record but for the signature's number and the origin, and the same tracks; and both are warned of the
 -- same, but for the slot, in whichever slot each is

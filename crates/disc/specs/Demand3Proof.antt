@@ -63,7 +63,7 @@ given-is format image slot place b e =
     let bytes : copyBytes format image place ≡ b = some-eq (sym (copy-is format image place h) ∙ e) in
     rw (h, bytes)
 
-known-read : (format : ℕ) (image : List ℕ) (m : Memory) → foreign format ≡ false → readDisc format image m ≡ readSource (imageSource format image) format m
+pub known-read : (format : ℕ) (image : List ℕ) (m : Memory) → foreign format ≡ false → readDisc format image m ≡ readSource (imageSource format image) format m
 unfolding readDisc imageMaster readSource
 known-read format image m h = rw h
 

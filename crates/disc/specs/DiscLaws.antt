@@ -189,6 +189,17 @@ master-back s table format memory = go (hasArea (tableOf s table twoChannel) || 
     go true = refl
     go false = refl
 
+-- The count is that of the warnings.
+pub count-back : (s : Source) (table : List ℕ) (format : ℕ) (memory : Memory) → readingOf s table format memory .answer .warnings ≡ length (warningsOf s table)
+unfolding readingOf answerOf accepted silent
+count-back s table format memory = go (hasArea (tableOf s table twoChannel) || hasArea (tableOf s table multichannel))
+  where
+    go : (b : Bool)
+        → cond b (accepted format (s .count) table (length (warningsOf s table)) (tableOf s table twoChannel) (tableOf s table multichannel)) (silent table (length (warningsOf s table))) .warnings
+        ≡ length (warningsOf s table)
+    go true = refl
+    go false = refl
+
 -- ---- the checks
 
 -- none of refusals 2 to 5 comes, and the master table is `table`

@@ -22,7 +22,11 @@ pub mod DiscLaws
 pub mod RefusalLaws
 pub mod SourceCut
 pub mod Demand3Proof
+pub mod Calls
 pub mod Demand3Calls
 pub mod Sample
 pub mod Controls
 pub mod WarningLaws
+pub mod Capping
+pub mod CappingLaws
+pub mod CappingCalls

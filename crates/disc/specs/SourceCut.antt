@@ -134,7 +134,7 @@ module _ (W : Source) (z : Sized W) (format : ℕ) (m : Memory) (table : List �
   long : length table ≡ masterBytes
   long = run-of-length W z masterLsn masterSectors table (p .there)
 
-  passed-yields : (slot : Slot) → slotYields (readSource W format m) slot ≡ yieldedIn slot (chosen W (pointerOf table slot))
+  pub passed-yields : (slot : Slot) → slotYields (readSource W format m) slot ≡ yieldedIn slot (chosen W (pointerOf table slot))
   passed-yields slot = rw (passed-read W format m table p) (slot-yields W z table long m (p .room) format slot)
 
   -- a slot yields of its chosen copy

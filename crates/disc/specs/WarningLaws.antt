@@ -1,18 +1,19 @@
--- "Code 16 never comes here.": no warning of a disc has it. Assumes nothing.
-use Prim.Native.Nat.{ℕ}
+-- Laws of the warnings of a disc: what holds of all of them, by where they come from. "Code 16 never comes here.": no warning of a disc has it.
+-- Assumes nothing.
+use Prim.Native.Nat.{ℕ, _≤_, _<_}
 use native.Mathlib.Omega.{arith}
 use mathlib.Core.Bool.{Bool, true, false, cond, not, _&&_}
 use mathlib.Core.List.{List, [], _∷_, _++_, List·Memᴰ, List·Memᴰ·not-nil, List·Memᴰ·append-cases}
 use mathlib.Core.Logic.{_≢_, _⊎_, inl, inr}
 use mathlib.Core.Option.{Option, none, some}
-use mathlib.Core.Path.{_≡_, ap, _∙_, sym, subst}
+use mathlib.Core.Path.{_≡_, refl, ap, _∙_, sym, subst}
 use lib.Dec.{ltb}
 use Rattle.sectors.specs.Number.{beAt}
 use Rattle.sectors.specs.Source.{Source}
 use Rattle.area.specs.Lent.{whenTrue}
 use Rattle.area.specs.Table as Area
 use Rattle.area.specs.TableLaws.{area-of, address-warnings}
-use Rattle.area.specs.WarningLaws.{of-slot, in-one, in-when, TableCode, table-codes}
+use Rattle.area.specs.WarningLaws.{of-slot, in-one, in-when, TableCode, table-codes, table-warnings-of}
 use Rattle.area.specs.declared.warning.Warning.{Warning}
 use Rattle.disc.specs.Slot.{Slot, twoChannel, multichannel, slotNumber}
 use Rattle.disc.specs.Master.{hasText, hasManufacturer, pointerOf}
@@ -22,76 +23,111 @@ use Rattle.disc.specs.Disc.{ofDisc, masterCopiesDiffer, discWarnings, wa
 use Rattle.disc.specs.declared.copies.SlotCopies.{SlotCopies}
 use Rattle.disc.specs.declared.master.AreaPointer.{AreaPointer}
 
--- no warning of a list has the code
-abbrev Never : List Warning → Type 0
-Never warnings = (w : Warning) → List·Memᴰ w warnings → w .code ≢ audioSectorMalformed
+-- the codes of what a disc, or a slot's copies, are warned of: 1 to 7, and 17
+abbrev pub OwnCode : ℕ → Type 0
+OwnCode n = (n ≤ areaTocUnreadable) ⊎ (n ≡ masterTocCopiesDiffer)
 
-never-none : Never []
-never-none w m = absurd (List·Memᴰ·not-nil m)
+module _ (P : Warning → Type 0) where
+  -- it holds of every warning of a list
+  abbrev pub Every : List Warning → Type 0
+  Every warnings = (w : Warning) → List·Memᴰ w warnings → P w
 
-never-both : (xs ys : List Warning) → Never xs → Never ys → Never (xs ++ ys)
-never-both xs ys first second w m = go (List·Memᴰ·append-cases xs m)
-  where
-    go : List·Memᴰ w xs ⊎ List·Memᴰ w ys → w .code ≢ audioSectorMalformed
-    go (inl h) = first w h
-    go (inr h) = second w h
+  every-none : Every []
+  every-none w m = absurd (List·Memᴰ·not-nil m)
 
-code-is : (code slot : ℕ) (w : Warning) → w ≡ Area.ofSlot code slot → w .code ≡ code
-code-is code slot w e = ap (λ (x : Warning). x .code) (e ∙ of-slot code slot)
+  every-both : (xs ys : List Warning) → Every xs → Every ys → Every (xs ++ ys)
+  every-both xs ys first second w m = go (List·Memᴰ·append-cases xs m)
+    where
+      go : List·Memᴰ w xs ⊎ List·Memᴰ w ys → P w
+      go (inl h) = first w h
+      go (inr h) = second w h
 
-never-one : (code slot : ℕ) → code ≢ audioSectorMalformed → Never (Area.ofSlot code slot ∷ [])
-never-one code slot other w m q = other (sym (code-is code slot w (in-one w (Area.ofSlot code slot) m)) ∙ q)
+  -- ---- of the disc, and of a slot's copies: it holds of each such code, of that slot and no track
+  module _ (slot : ℕ) (own : (code : ℕ) → OwnCode code → P (record { code = code; slot = slot; track = 0 })) where
+    every-one : (code : ℕ) → OwnCode code → Every (Area.ofSlot code slot ∷ [])
+    every-one code is w m = subst P (sym (in-one w (Area.ofSlot code slot) m ∙ of-slot code slot)) (own code is)
 
-never-when : (t : Bool) (code slot : ℕ) → code ≢ audioSectorMalformed → Never (whenTrue t (Area.ofSlot code slot))
-never-when t code slot other w m q = other (sym (code-is code slot w (in-when w t (Area.ofSlot code slot) m)) ∙ q)
+    every-when : (t : Bool) (code : ℕ) → OwnCode code → Every (whenTrue t (Area.ofSlot code slot))
+    every-when t code is w m = subst P (sym (in-when w t (Area.ofSlot code slot) m ∙ of-slot code slot)) (own code is)
 
--- ---- of the disc
-never-disc : (differ : Bool) (table : List ℕ) → Never (discWarnings differ table)
-unfolding discWarnings ofDisc
-never-disc differ table =
-    never-both _ _
-    (never-both _ _ (never-when differ masterTocCopiesDiffer 0 (omega arith))
-    (never-when (not (hasText table) && ltb 0 (beAt table 128 1)) masterTextMissing 0 (omega arith)))
-    (never-when (not (hasManufacturer table)) manufacturerMissing 0 (omega arith))
+    every-served : (c : SlotCopies) → Every (servedWarnings slot c)
+    unfolding servedWarnings
+    every-served c =
+        every-both _ _
+        (every-both _ _
+        (every-both _ _ (every-when (not (c .toc1)) areaToc1Unreadable (inl (omega arith)))
+        (every-when (hasSecond (c .pointer) && not (c .toc2)) areaToc2Unreadable (inl (omega arith))))
+        (every-when (c .differ) areaTocCopiesDiffer (inl (omega arith))))
+        (every-when (not (c .toc1) && not (c .toc2)) areaTocUnreadable (inl (omega arith)))
 
--- ---- of a slot: its copies, and its table
-never-served : (slot : ℕ) (c : SlotCopies) → Never (servedWarnings slot c)
-unfolding servedWarnings
-never-served slot c =
-    never-both _ _
-    (never-both _ _
-    (never-both _ _ (never-when (not (c .toc1)) areaToc1Unreadable slot (omega arith))
-    (never-when (hasSecond (c .pointer) && not (c .toc2)) areaToc2Unreadable slot (omega arith)))
-    (never-when (c .differ) areaTocCopiesDiffer slot (omega arith)))
-    (never-when (not (c .toc1) && not (c .toc2)) areaTocUnreadable slot (omega arith))
+    pub every-copies : (c : SlotCopies) → Every (copyWarnings slot c)
+    unfolding copyWarnings
+    every-copies c = go (isUsed (c .pointer)) (isTooLarge (c .pointer))
+      where
+        go : (used large : Bool) → Every (cond used (cond large (Area.ofSlot areaTocTooLarge slot ∷ []) (servedWarnings slot c)) [])
+        go true true = every-one areaTocTooLarge (inl (omega arith))
+        go true false = every-served c
+        go false large = every-none
 
-never-copies : (slot : ℕ) (c : SlotCopies) → Never (copyWarnings slot c)
-unfolding copyWarnings
-never-copies slot c = go (isUsed (c .pointer)) (isTooLarge (c .pointer))
-  where
-    go : (used large : Bool) → Never (cond used (cond large (Area.ofSlot areaTocTooLarge slot ∷ []) (servedWarnings slot c)) [])
-    go true true = never-one areaTocTooLarge slot (omega arith)
-    go true false = never-served slot c
-    go false large = never-none
+  pub every-disc : ((code : ℕ) → OwnCode code → P (record { code = code; slot = 0; track = 0 })) → (differ : Bool) (table : List ℕ) → Every (discWarnings differ table)
+  unfolding discWarnings ofDisc
+  every-disc own differ table =
+      every-both _ _
+      (every-both _ _ (every-when 0 own differ masterTocCopiesDiffer (inr refl))
+      (every-when 0 own (not (hasText table) && ltb 0 (beAt table 128 1)) masterTextMissing (inl (omega arith))))
+      (every-when 0 own (not (hasManufacturer table)) manufacturerMissing (inl (omega arith)))
 
-not-coded : (n : ℕ) → TableCode n → n ≢ audioSectorMalformed
-not-coded n (inl h) q = let low = h .0 in let high = h .1 in omega arith
-not-coded n (inr e) q = omega arith
+  -- ---- of a slot's table
+  pub every-table : (slot : Slot) → ((bytes : List ℕ) (sectors : ℕ) → Every (Area.warningsOf (Area.tableOf bytes (slotNumber slot) sectors)))
+      → (x : Option Copy) → Every (warningsIn (tableIn slot x))
+  unfolding warningsIn tableIn
+  every-table slot tables none w m = every-none w m
+  every-table slot tables (some c) w m =
+      let its = ap Area.warningsOf (area-of (c .bytes) (slotNumber slot) (c .lsn) (c .sectors)) ∙ address-warnings (c .lsn) (Area.tableOf (c .bytes) (slotNumber slot) (c .sectors)) in
+      tables (c .bytes) (c .sectors) w (subst (List·Memᴰ w) its m)
 
-never-table : (slot : Slot) (x : Option Copy) → Never (warningsIn (tableIn slot x))
-unfolding warningsIn tableIn
-never-table slot none w m = never-none w m
-never-table slot (some c) w m =
-    let bytes = c .bytes in
-    let its = ap Area.warningsOf (area-of bytes (slotNumber slot) (c .lsn) (c .sectors)) ∙ address-warnings (c .lsn) (Area.tableOf bytes (slotNumber slot) (c .sectors)) in
-    not-coded (w .code) (table-codes bytes (slotNumber slot) (c .sectors) w (subst (List·Memᴰ w) its m))
+  -- ---- so of all
+  module _ (own : (slot code : ℕ) → slot ≤ 2 → OwnCode code → P (record { code = code; slot = slot; track = 0 }))
+      (tables : (bytes : List ℕ) (slot : Slot) (sectors : ℕ) → Every (Area.warningsOf (Area.tableOf bytes (slotNumber slot) sectors))) where
+    every-slot : (source : Source) (slot : Slot) (p : AreaPointer) → Every (slotWarnings source slot p)
+    unfolding slotWarnings slotTable slotNumber
+    every-slot source twoChannel p =
+        every-both _ _ (every-copies 1 (λ code. own 1 code (omega arith)) (copiesOf source p))
+        (every-table twoChannel (λ bytes. tables bytes twoChannel) (chosen source p))
+    every-slot source multichannel p =
+        every-both _ _ (every-copies 2 (λ code. own 2 code (omega arith)) (copiesOf source p))
+        (every-table multichannel (λ bytes. tables bytes multichannel) (chosen source p))
 
-never-slot : (source : Source) (slot : Slot) (p : AreaPointer) → Never (slotWarnings source slot p)
-unfolding slotWarnings slotTable
-never-slot source slot p = never-both _ _ (never-copies (slotNumber slot) (copiesOf source p)) (never-table slot (chosen source p))
+    every-warning : (source : Source) (table : List ℕ) → Every (warningsOf source table)
+    unfolding warningsOf
+    every-warning source table =
+        every-both _ _
+        (every-both _ _ (every-disc (λ code. own 0 code (omega arith)) (masterCopiesDiffer source table) table)
+        (every-slot source twoChannel (pointerOf table twoChannel)))
+        (every-slot source multichannel (pointerOf table multichannel))
+
+-- ---- none has code 16
+own-not : (n : ℕ) → OwnCode n → n ≢ audioSectorMalformed
+own-not n (inl h) q = omega arith
+own-not n (inr e) q = omega arith
+
+table-not : (n : ℕ) → TableCode n → n ≢ audioSectorMalformed
+table-not n (inl h) q = let low = h .0 in let high = h .1 in omega arith
+table-not n (inr e) q = omega arith
 
 pub never-malformed : (source : Source) (table : List ℕ) (w : Warning) → List·Memᴰ w (warningsOf source table) → w .code ≢ audioSectorMalformed
-unfolding warningsOf
-never-malformed source table =
-    never-both _ _ (never-both _ _ (never-disc (masterCopiesDiffer source table) table) (never-slot source twoChannel (pointerOf table twoChannel)))
-    (never-slot source multichannel (pointerOf table multichannel))
+never-malformed =
+    every-warning (λ w. w .code ≢ audioSectorMalformed) (λ slot code few is. own-not code is) (λ bytes slot sectors w m.
+    table-not (w .code) (table-codes bytes (slotNumber slot) sectors w m))
+
+-- ---- slot and track are bytes
+pub slot-number-few : (slot : Slot) → slotNumber slot ≤ 2
+unfolding slotNumber
+slot-number-few twoChannel = omega arith
+slot-number-few multichannel = omega arith
+
+pub warning-bytes : (source : Source) (table : List ℕ) (w : Warning) → List·Memᴰ w (warningsOf source table) → (w .slot < 256) × (w .track < 256)
+warning-bytes =
+    every-warning (λ w. (w .slot < 256) × (w .track < 256)) (λ slot code few is. (omega arith, omega arith)) (λ bytes slot sectors w m.
+    let of = table-warnings-of bytes (slotNumber slot) sectors w m in let few = slot-number-few slot in let its = of .0 in let track = of .1 in
+    (omega arith, omega arith))

@@ -1,3 +1,3 @@
-pub mod Demanded
+pub mod Consequences
 pub mod LocalArray
 pub mod TrackList
