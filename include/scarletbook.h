@@ -295,7 +295,7 @@ typedef struct scarletbook_locale {
     uint8_t charset;
 } scarletbook_locale;
 
-/* A timecode, as stored. */
+/* A timecode, as stored: its seconds may be above 59, its frames above 74. */
 typedef struct scarletbook_timecode {
     uint8_t minutes;
     uint8_t seconds;
@@ -336,14 +336,14 @@ typedef struct scarletbook_table_origin {
 } scarletbook_table_origin;
 
 /*
- * When a track starts and how long it lasts. The frame numbers, 75 a second, are capped at the play time of its
- * area: where the stored start and duration together exceed it, the start is capped at it, the duration at what
- * remains, and the track has warning 14. Else they are those of the stored timecodes.
+ * When a track starts and how long it lasts: capped at the play time of its area, and as stored. The frame numbers,
+ * 75 a second, are those of the stored timecodes, unless these together exceed the play time. Exactly then the start
+ * is capped at it, the duration at what is left of it, and the track has warning 14.
  */
 typedef struct scarletbook_track_times {
-    uint32_t start_frame;
-    uint32_t duration_frames;
-    scarletbook_timecode stored_start; /* as stored: seconds above 59 and frames above 74 too */
+    uint32_t start_frame;     /* capped */
+    uint32_t duration_frames; /* capped */
+    scarletbook_timecode stored_start;
     scarletbook_timecode stored_duration;
 } scarletbook_track_times;
 

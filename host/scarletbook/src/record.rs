@@ -133,7 +133,7 @@ pub struct Lsn(pub u32);
 #[derive(Clone, Copy, Debug, Default, PartialEq, Eq, PartialOrd, Ord)]
 pub struct Frame(pub u32);
 
-/// A timecode, as stored.
+/// A timecode, as stored: its seconds may be above 59, its frames above 74.
 #[repr(C)]
 #[derive(Clone, Copy, Debug, Default, PartialEq, Eq)]
 pub struct Timecode {
@@ -217,17 +217,39 @@ impl Area {
 
 /// When a track starts and how long it lasts: capped at the play time of its area, and as stored.
 ///
-/// Where the stored start and duration together exceed the play time, the start is capped at it,
-/// the duration at what remains, and the track has the warning `TrackPastPlaytime`. Else the two
-/// frame numbers are those of the stored timecodes.
+/// The frame numbers are those of the stored timecodes, unless these together exceed the play time.
+/// Exactly then the start is capped at it, the duration at what is left of it, and the track has the
+/// warning [`TrackPastPlaytime`](crate::WarningCode::TrackPastPlaytime).
+///
+/// ```
+/// # mod small_disc { include!(concat!(env!("CARGO_MANIFEST_DIR"), "/examples/small_disc.rs")); }
+/// # let mut table = small_disc::area_table(b"TWOCHTOC", 2, &[b"Overture"], 7);
+/// # small_disc::put(&mut table, 3 * 2048 + 8, &[4, 0, 0]);
+/// # small_disc::put(&mut table, 3 * 2048 + 1028, &[0, 61, 80]);
+/// use scarletbook::Table;
+/// use scarletbook::raw::frame_number;
+/// use scarletbook::record::{Frame, Timecode};
+///
+/// // The table of an area of five minutes, whose one track starts at the fourth, is in `table`.
+/// let read = Table::read(&table)?;
+/// let times = read.area().unwrap().track(1).unwrap().times;
+/// assert_eq!(times.stored_start, Timecode { minutes: 4, seconds: 0, frames: 0 });
+/// assert_eq!(times.start_frame, frame_number(times.stored_start));
+/// assert_eq!(times.stored_duration, Timecode { minutes: 0, seconds: 61, frames: 80 });
+/// assert_eq!(frame_number(times.stored_duration), Frame(4655));
+/// assert_eq!(times.duration_frames, Frame(4500));
+/// # Ok::<(), scarletbook::Refusal>(())
+/// ```
 #[repr(C)]
 #[derive(Clone, Copy, Debug, Default, PartialEq, Eq)]
 pub struct TrackTimes {
+    /// Capped.
     pub start_frame: Frame,
+    /// Capped.
     pub duration_frames: Frame,
-    /// As stored, whatever its seconds and frames.
+    /// Before the cap.
     pub stored_start: Timecode,
-    /// As stored, whatever its seconds and frames.
+    /// Before the cap.
     pub stored_duration: Timecode,
 }
 

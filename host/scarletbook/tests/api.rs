@@ -93,9 +93,28 @@ fn an_area_and_its_tracks() {
     let second = area.track(2).expect("track 2");
     assert_eq!(second.isrc().as_deref(), Some("JPABC2600002"));
     assert_eq!(second.genre(), Some(record::Genre { category: 1, index: 7 }));
-    assert_eq!((second.times.start_frame.0, second.times.duration_frames.0), (75, 75));
+    let (times, one_second) = (second.times, Timecode { minutes: 0, seconds: 1, frames: 0 });
+    assert_eq!((times.start_frame.0, times.duration_frames.0), (75, 75));
+    assert_eq!((times.stored_start, times.stored_duration), (one_second, one_second));
     assert!(area.track(0).is_none() && area.track(3).is_none());
     assert!(disc.area(0).is_none() && disc.area(3).is_none());
+}
+
+#[test]
+fn a_track_past_the_play_time_has_its_stored_times_too() {
+    let mut table = area_table(b"TWOCHTOC", 1, &[b"One", b"Two"], 7);
+    // The second track starts with the second second of five minutes.
+    put(&mut table, 3 * SECTOR_SIZE + 1028 + 4, &[4, 58, 76]);
+    let (disc, lone) = (read(&disc_of(&table)), Table::read(&table).expect("accepted"));
+    for area in disc.areas().chain(lone.area()) {
+        let times = area.track(2).expect("track 2").times;
+        assert_eq!((times.start_frame.0, times.duration_frames.0), (75, 299 * 75));
+        assert_eq!(times.stored_start, Timecode { minutes: 0, seconds: 1, frames: 0 });
+        assert_eq!(times.stored_duration, Timecode { minutes: 4, seconds: 58, frames: 76 });
+    }
+    let past = |slot| Warning { code: WarningCode::TrackPastPlaytime, slot, track: 2 };
+    let warnings = disc.warnings().filter(|warning| warning.code == WarningCode::TrackPastPlaytime);
+    assert!(warnings.eq([past(1), past(2)]) && lone.warnings().eq([past(1)]));
 }
 
 #[test]

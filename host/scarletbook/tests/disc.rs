@@ -72,7 +72,8 @@ fn the_second_copy_of_the_second_slot() {
     assert_eq!(answer.two_channel, Area::default());
     let origin = answer.multichannel.origin;
     assert_eq!((origin.slot, origin.toc_lsn, origin.toc_sectors), (2, Lsn(540), 3));
-    assert_eq!(lent.tracks[255].start_lsn, Lsn(1000));
+    let (track, minute) = (lent.tracks[255], Timecode { minutes: 1, seconds: 0, frames: 0 });
+    assert_eq!((track.start_lsn, track.times.stored_duration), (Lsn(1000), minute));
     let (begin, bytes) = (REGIONS[1], 3 * SECTOR);
     assert_eq!(lent.work[begin..begin + bytes], image[TABLE * SECTOR..]);
     assert!(

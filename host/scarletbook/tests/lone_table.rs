@@ -40,6 +40,17 @@ fn read(table: &[u8]) -> (TableAnswer, Lent) {
     (answer, lent)
 }
 
+/// Capped frame numbers, and timecodes as stored.
+fn times(start: u32, duration: u32, stored_start: [u8; 3], stored_duration: [u8; 3]) -> TrackTimes {
+    let timecode = |[minutes, seconds, frames]: [u8; 3]| Timecode { minutes, seconds, frames };
+    TrackTimes {
+        start_frame: Frame(start),
+        duration_frames: Frame(duration),
+        stored_start: timecode(stored_start),
+        stored_duration: timecode(stored_duration),
+    }
+}
+
 #[test]
 fn the_example_of_the_document() {
     let (answer, lent) = read(&example(3, &[]));
@@ -47,7 +58,7 @@ fn the_example_of_the_document() {
     let origin = TableOrigin { slot: 1, toc_lsn: Lsn(0), toc_sectors: 3 };
     assert_eq!((answer.area.present, answer.area.origin), (1, origin));
     assert_eq!((answer.area.kind, answer.area.track_count, answer.area.locale_count), (1, 1, 0));
-    let times = TrackTimes { start_frame: Frame(0), duration_frames: Frame(4500) };
+    let times = times(0, 4500, [0, 0, 0], [1, 0, 1]);
     let track =
         Track { number: 1, start_lsn: Lsn(1000), length_sectors: 500, times, ..lent.tracks[1] };
     assert_eq!(lent.tracks[..2], [track, Track::default()]);
@@ -141,6 +152,37 @@ fn items_are_drawn_to_the_end() {
         let none = DrawAnswer { next, left: 5, ..DrawAnswer::default() };
         assert_eq!(draw_at(&table, next, 5), none);
     }
+}
+
+/// Stored starts and durations, and what they are capped to in a play time of 4,500 frames.
+const CAPPED: [([u8; 3], [u8; 3], (u32, u32)); 8] = [
+    ([0, 0, 0], [1, 0, 0], (0, 4500)),
+    ([0, 0, 0], [1, 0, 1], (0, 4500)),
+    ([0, 58, 75], [0, 0, 75], (4425, 75)),
+    ([0, 58, 75], [0, 0, 76], (4425, 75)),
+    ([0, 0, 200], [0, 57, 25], (200, 4300)),
+    ([0, 60, 0], [0, 0, 0], (4500, 0)),
+    ([0, 61, 0], [0, 0, 0], (4500, 0)),
+    ([255, 255, 255], [255, 255, 255], (4500, 0)),
+];
+
+#[test]
+fn times_are_capped_and_as_stored() {
+    let mut table = example(3, &[(69, &[CAPPED.len() as u8])]);
+    for (i, (start, duration, _)) in CAPPED.iter().enumerate() {
+        // The flags stand behind each timecode.
+        table[4104 + 4 * i..][..4].copy_from_slice(&[start[0], start[1], start[2], 90]);
+        table[5124 + 4 * i..][..4].copy_from_slice(&[duration[0], duration[1], duration[2], 91]);
+    }
+    let (answer, lent) = read(&table);
+    for (track, (start, duration, capped)) in lent.tracks.iter().zip(CAPPED) {
+        assert_eq!(track.times, times(capped.0, capped.1, start, duration));
+        assert_eq!((track.start_flags, track.duration_flags), (90, 91));
+    }
+    let past = lent.words[..answer.warnings].iter().filter(|&word| word >> 16 == 14);
+    assert!(past.map(|word| word & 255).eq([2, 4, 7, 8]));
+    assert_eq!(lent.tracks[CAPPED.len()..], [Track::default(); 247]);
+    assert_eq!(Track::default().times, times(0, 0, [0; 3], [0; 3]));
 }
 
 #[test]
