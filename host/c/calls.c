@@ -64,6 +64,14 @@ static void make_image(void)
     make_table(image + TABLE * SCARLETBOOK_SECTOR_SIZE);
 }
 
+/* The start of the example's track and its duration, which is a frame past the play time. */
+static const scarletbook_timecode at_zero = {0, 0, 0}, past = {1, 0, 1};
+
+static int same_time(scarletbook_timecode a, scarletbook_timecode b)
+{
+    return a.minutes == b.minutes && a.seconds == b.seconds && a.frames == b.frames;
+}
+
 static void discs(void)
 {
     make_image();
@@ -80,6 +88,7 @@ static void discs(void)
     CHECK(scarletbook_warning_code(words[3]) == SCARLETBOOK_TRACK_PAST_PLAYTIME);
     CHECK(scarletbook_warning_slot(words[3]) == 2 && scarletbook_warning_track(words[3]) == 1);
     CHECK(tracks[SCARLETBOOK_MULTICHANNEL_FIRST].start_lsn == 1000);
+    CHECK(same_time(tracks[SCARLETBOOK_MULTICHANNEL_FIRST].times.stored_duration, past));
     CHECK(memcmp(work + SCARLETBOOK_MULTICHANNEL_REGION, "TWOCHTOC", 8) == 0);
     CHECK(memcmp(work + SCARLETBOOK_MASTER_REGION, "SACDMTOC", 8) == 0);
     scarletbook_decode_answer text =
@@ -103,6 +112,7 @@ static void lone_tables(void)
         scarletbook_read_table(table, size, tracks, SCARLETBOOK_MAX_TRACKS, words, SCARLETBOOK_TABLE_WORDS);
     CHECK(read.refusal == 0 && read.warnings == 1 && read.area.track_count == 1);
     CHECK(words[0] == 14u * 65536u + 256u + 1u && tracks[0].times.duration_frames == 4500);
+    CHECK(same_time(tracks[0].times.stored_start, at_zero) && same_time(tracks[0].times.stored_duration, past));
     CHECK(tracks[0].start_lsn == 1000 && tracks[0].length_sectors == 500);
     scarletbook_decode_answer text =
         scarletbook_decode_area_text(table, size, read.area, SCARLETBOOK_AREA_DESCRIPTION, page, sizeof page);
@@ -119,6 +129,37 @@ static void lone_tables(void)
     scarletbook_draw_answer item = scarletbook_draw_at(items, sizeof items - 1, 0, 5);
     CHECK(item.found == 1 && item.kind == 1 && item.place == 2 && item.len == 3);
     CHECK(item.next == 6 && item.left == 4);
+}
+
+/* Timecodes of tracks as stored, and what they are capped to in the example's play time of a minute. */
+static const struct {
+    scarletbook_timecode start, duration;
+    uint32_t start_frame, duration_frames;
+} times[] = {
+    {{0, 0, 200}, {0, 57, 25}, 200, 4300},
+    {{0, 58, 75}, {0, 0, 76}, 4425, 75},
+    {{0, 61, 0}, {0, 0, 0}, 4500, 0},
+    {{255, 255, 255}, {255, 255, 255}, 4500, 0},
+};
+
+static void times_of_tracks(void)
+{
+    static uint8_t table[3 * SCARLETBOOK_SECTOR_SIZE];
+    size_t i;
+    make_table(table);
+    table[69] = 4;
+    for (i = 0; i < 4; i++) {
+        memcpy(table + 4104 + 4 * i, &times[i].start, 3);
+        memcpy(table + 5124 + 4 * i, &times[i].duration, 3);
+    }
+    CHECK(scarletbook_read_table(table, sizeof table, tracks, SCARLETBOOK_MAX_TRACKS, words,
+                                 SCARLETBOOK_TABLE_WORDS).refusal == 0);
+    for (i = 0; i < 4; i++) {
+        CHECK(tracks[i].times.start_frame == times[i].start_frame);
+        CHECK(tracks[i].times.duration_frames == times[i].duration_frames);
+        CHECK(same_time(tracks[i].times.stored_start, times[i].start));
+        CHECK(same_time(tracks[i].times.stored_duration, times[i].duration));
+    }
 }
 
 static void sectors(void)
@@ -378,6 +419,7 @@ int main(void)
 {
     discs();
     lone_tables();
+    times_of_tracks();
     sectors();
     headers();
     mended_headers();
