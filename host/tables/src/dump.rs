@@ -64,10 +64,10 @@ impl Dump {
         self.put(format_args!("area{slot}."));
         fields::area(area, self);
         self.value("tracks", Value::Number(area.track_count.into()));
-        let (chain, prefix) = (area.chain(), self.prefix.len());
+        let prefix = self.prefix.len();
         for track in area.tracks() {
             self.put(format_args!("track{}.", track.number));
-            fields::track(area, chain, &track, self);
+            fields::track(&track, self);
             self.prefix.truncate(prefix);
         }
         self.prefix.clear();

@@ -1,14 +1,8 @@
 //! The fields of a disc, its areas and their tracks, by name, in the order of the dump.
 
-use scarletbook::raw::{byte_at, charset};
-use scarletbook::record::{AreaPointer, Chain, Date, FixedText, Genre, Locale, Timecode, Version};
+use scarletbook::raw::charset;
+use scarletbook::record::{AreaPointer, Date, FixedText, Genre, Locale, Timecode, Version};
 use scarletbook::{Area, AreaTextItem, Disc, DiscTextItem, Refusal, Track, TrackTextItem, digest};
-
-/// Where the stored starts and durations of tracks begin in `SACDTRL2`.
-const STARTS: usize = 8;
-const DURATIONS: usize = 1028;
-/// The bytes from one track's timecode to the next one's.
-const TIMECODE_STEP: usize = 4;
 
 /// The value of a field.
 #[derive(Clone, Copy, Debug)]
@@ -121,8 +115,8 @@ pub fn area(area: &Area, to: &mut impl Fields) {
     to.texts(AreaTextItem::ALL.into_iter().map(|item| (item.name(), text(item))));
 }
 
-/// The fields of a track of an area whose sub-structures begin where the chain says.
-pub fn track(area: &Area, chain: Chain, track: &Track, to: &mut impl Fields) {
+/// The fields of a track.
+pub fn track(track: &Track, to: &mut impl Fields) {
     to.values([
         ("number", Value::Number(track.number.into())),
         ("start_lsn", Value::Number(track.start_lsn.0)),
@@ -134,15 +128,8 @@ pub fn track(area: &Area, chain: Chain, track: &Track, to: &mut impl Fields) {
         ("isrc", Value::Fixed((track.has_isrc == 1).then_some(&track.isrc))),
         ("genre", Value::Genre(track.genre())),
     ]);
-    let text = |item: TrackTextItem| Text::new(track.text(item), area.text_charset);
+    let text = |item: TrackTextItem| Text::new(track.text(item), track.area().text_charset);
     to.texts(TrackTextItem::ALL.into_iter().map(|item| (item.name(), text(item))));
-    let first = chain.trl2 as usize + TIMECODE_STEP * (usize::from(track.number) - 1);
-    to.value("stored_start", stored_timecode(area.table(), first + STARTS));
-    to.value("stored_duration", stored_timecode(area.table(), first + DURATIONS));
-}
-
-/// The timecode at a place of a table.
-fn stored_timecode(table: &[u8], at: usize) -> Value<'static> {
-    let [minutes, seconds, frames] = [at, at + 1, at + 2].map(|at| byte_at(table, at));
-    Value::Timecode(Timecode { minutes, seconds, frames })
+    to.value("stored_start", Value::Timecode(track.times.stored_start));
+    to.value("stored_duration", Value::Timecode(track.times.stored_duration));
 }

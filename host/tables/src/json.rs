@@ -44,12 +44,11 @@ impl Json {
     }
 
     fn area(&mut self, area: Area) {
-        let chain = area.chain();
         self.open('{');
         fields::area(&area, self);
         self.array("tracks", area.tracks(), |json, track| {
             json.open('{');
-            fields::track(&area, chain, &track, json);
+            fields::track(&track, json);
             json.close('}');
         });
         self.close('}');
