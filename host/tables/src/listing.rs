@@ -3,7 +3,7 @@
 use crate::fields::Text;
 use crate::reading::Reading;
 use scarletbook::raw::frame_number;
-use scarletbook::record::{Date, Frame, MasterToc};
+use scarletbook::record::{Date, Frame, MasterToc, Timecode};
 use scarletbook::{Area, Disc, DiscTextItem, Track, TrackTextItem};
 
 /// Frames in a second.
@@ -12,8 +12,32 @@ const FRAME_RATE: u32 = 75;
 const HYBRID: u8 = 0x80;
 /// The characters of a column at most; longer cells stick out.
 const WIDEST: usize = 60;
-/// The columns before this one are numbers and times.
-const FIRST_TEXT: usize = 3;
+
+/// What a column has.
+#[derive(Clone, Copy)]
+enum Kind {
+    /// Numbers or times, aligned to the right.
+    Number,
+    /// Marks of times that were cut, each behind its time.
+    Mark,
+    /// Texts, aligned to the left.
+    Text,
+}
+
+/// The columns of a list of tracks: what stands over each, and what it has.
+const COLUMNS: [(&str, Kind); 8] = [
+    ("Track", Kind::Number),
+    ("Start", Kind::Number),
+    ("", Kind::Mark),
+    ("Duration", Kind::Number),
+    ("", Kind::Mark),
+    ("Title", Kind::Text),
+    ("Performer", Kind::Text),
+    ("ISRC", Kind::Text),
+];
+
+/// The cells of a line, by column.
+type Row = [String; COLUMNS.len()];
 
 /// The lines about a disc; none where there is no disc.
 pub fn listing(reading: Reading) -> String {
@@ -95,47 +119,54 @@ pub fn layout(channel_count: u8, area_config: u8) -> String {
     }
 }
 
-/// The lines of an area's tracks, by column, under the names of the columns.
-fn tracks(area: &Area) -> Vec<Vec<String>> {
-    let names = ["Track", "Start", "Duration", "Title", "Performer", "ISRC"];
-    let mut rows = vec![names.map(String::from).to_vec()];
+/// The lines of an area's tracks, under the names of the columns.
+fn tracks(area: &Area) -> Vec<Row> {
+    let mut rows = vec![COLUMNS.map(|(name, _)| name.to_owned())];
     rows.extend(area.tracks().map(|track| row(area, &track)));
     rows
 }
 
-fn row(area: &Area, track: &Track) -> Vec<String> {
+fn row(area: &Area, track: &Track) -> Row {
     let text = |item| shown(Text::new(track.text(item), area.text_charset));
-    vec![
+    let times = track.times;
+    [
         track.number.to_string(),
-        time(track.times.start_frame),
-        time(track.times.duration_frames),
+        time(times.start_frame),
+        mark(times.start_frame, times.stored_start),
+        time(times.duration_frames),
+        mark(times.duration_frames, times.stored_duration),
         text(TrackTextItem::Title),
         text(TrackTextItem::Performer),
         track.isrc().map(|isrc| printable(&isrc)).unwrap_or_default(),
     ]
 }
 
-/// Rows under a head, their columns aligned: numbers and times to the right, texts to the left.
-/// A column that is empty under its head is left out.
-fn table(rows: &[Vec<String>]) -> String {
-    let Some((head, below)) = rows.split_first() else { return String::new() };
+/// Rows under a head, their columns aligned. A column that is empty under its head is left out.
+fn table(rows: &[Row]) -> String {
+    let Some((_, below)) = rows.split_first() else { return String::new() };
     let used = |&column: &usize| below.iter().any(|row| !row[column].is_empty());
-    let columns = (0..head.len()).filter(used).map(|column| (column, width(rows, column)));
+    let columns = (0..COLUMNS.len()).filter(used).map(|column| (column, width(rows, column)));
     let columns: Vec<_> = columns.collect();
     let mut out = String::new();
     for row in rows.iter().filter(|_| !below.is_empty()) {
-        let cells = columns.iter().map(|&(column, width)| match column {
-            ..FIRST_TEXT => format!("  {:>width$}", row[column]),
-            _ => format!("  {:<width$}", row[column]),
-        });
+        let cells = columns.iter().map(|&(column, width)| cell(column, &row[column], width));
         out += cells.collect::<String>().trim_end();
         out.push('\n');
     }
     out
 }
 
+/// A cell of a column, as wide as it, behind the blanks that part it from the column before.
+fn cell(column: usize, text: &str, width: usize) -> String {
+    match COLUMNS[column].1 {
+        Kind::Number => format!("  {text:>width$}"),
+        Kind::Mark => format!(" {text:<width$}"),
+        Kind::Text => format!("  {text:<width$}"),
+    }
+}
+
 /// The characters of a column's longest cell.
-fn width(rows: &[Vec<String>], column: usize) -> usize {
+fn width(rows: &[Row], column: usize) -> usize {
     let widths = rows.iter().map(|row| row[column].chars().count());
     widths.max().unwrap_or(0).min(WIDEST)
 }
@@ -144,6 +175,16 @@ fn width(rows: &[Vec<String>], column: usize) -> usize {
 fn time(frame: Frame) -> String {
     let (seconds, frames) = (frame.0 / FRAME_RATE, frame.0 % FRAME_RATE);
     format!("{:02}:{:02}.{frames:02}", seconds / 60, seconds % 60)
+}
+
+/// The mark of a time that was cut: the stored one by its own numbers, also seconds above 59 and
+/// frames above 74. Empty for a time that was not.
+fn mark(kept: Frame, stored: Timecode) -> String {
+    if kept == frame_number(stored) {
+        return String::new();
+    }
+    let Timecode { minutes, seconds, frames } = stored;
+    format!("(stored {minutes:02}:{seconds:02}.{frames:02})")
 }
 
 /// A text as it is shown; empty if it is absent.
@@ -163,6 +204,7 @@ pub fn printable(text: &str) -> String {
 #[cfg(test)]
 mod tests {
     use super::*;
+    use scarletbook::raw::cap;
 
     fn at(frame: u32) -> String {
         time(Frame(frame))
@@ -184,16 +226,20 @@ mod tests {
         assert_eq!(printable("Prélude ~\u{a0}ÿ"), "Prélude ~\u{a0}ÿ");
     }
 
+    /// The rows of a table under the names of its columns.
+    fn rows<const N: usize>(below: [[&str; COLUMNS.len()]; N]) -> Vec<Row> {
+        let head = COLUMNS.map(|(name, _)| name);
+        [head].into_iter().chain(below).map(|row| row.map(String::from)).collect()
+    }
+
     #[test]
     fn columns_are_aligned_by_characters() {
-        let row = |cells: [&str; 6]| cells.map(String::from).to_vec();
         let long = "x".repeat(WIDEST + 1);
-        let rows = [
-            row(["Track", "Start", "Duration", "Title", "Performer", "ISRC"]),
-            row(["1", "00:00.00", "100:00.00", "Été", "", "A"]),
-            row(["255", "00:00.00", "00:00.00", "Rondo", "", ""]),
-            row(["3", "", "", &long, "", "B"]),
-        ];
+        let rows = rows([
+            ["1", "00:00.00", "", "100:00.00", "", "Été", "", "A"],
+            ["255", "00:00.00", "", "00:00.00", "", "Rondo", "", ""],
+            ["3", "", "", "", "", &long, "", "B"],
+        ]);
         let wide = |title: &str| format!("{title:<WIDEST$}");
         let lines = [
             format!("  Track     Start   Duration  {}  ISRC\n", wide("Title")),
@@ -203,6 +249,59 @@ mod tests {
         ];
         assert_eq!(table(&rows), lines.concat());
         assert_eq!(table(&rows[..1]), "");
+    }
+
+    #[test]
+    fn marks_are_aligned_behind_their_times() {
+        let (short, long) = ("(stored 07:20.00)", "(stored 255:255.255)");
+        let rows = rows([
+            ["1", "00:02.00", "", "04:11.30", "", "Été", "", ""],
+            ["2", "04:15.30", "", "00:44.45", long, "Rondo", "", ""],
+            ["3", "100:00.00", short, "00:00.00", short, "", "", ""],
+        ]);
+        let lines = [
+            "  Track      Start                    Duration                       Title\n",
+            "      1   00:02.00                    04:11.30                       Été\n",
+            "      2   04:15.30                    00:44.45 (stored 255:255.255)  Rondo\n",
+            "      3  100:00.00 (stored 07:20.00)  00:00.00 (stored 07:20.00)\n",
+        ];
+        assert_eq!(table(&rows), lines.concat());
+    }
+
+    fn timecode([minutes, seconds, frames]: [u8; 3]) -> Timecode {
+        Timecode { minutes, seconds, frames }
+    }
+
+    #[test]
+    fn a_mark_has_the_stored_numbers() {
+        let marked = |kept, stored| mark(Frame(kept), timecode(stored));
+        assert_eq!(marked(19_500, [4, 20, 0]), "");
+        assert_eq!(marked(19_155, [4, 20, 0]), "(stored 04:20.00)");
+        assert_eq!(marked(4655, [0, 61, 80]), "");
+        assert_eq!(marked(4500, [0, 61, 80]), "(stored 00:61.80)");
+        assert_eq!(marked(0, [255, 255, 255]), "(stored 255:255.255)");
+    }
+
+    /// Where start and duration together exceed the play time, one of them is cut.
+    #[test]
+    fn exactly_the_tracks_that_are_cut_have_a_mark() {
+        const TIMES: [[u8; 3]; 8] = [
+            [0, 0, 0],
+            [0, 0, 1],
+            [0, 59, 74],
+            [0, 59, 75],
+            [0, 60, 0],
+            [1, 0, 0],
+            [1, 0, 1],
+            [255, 255, 255],
+        ];
+        for case in 0..8 * 8 * 8 {
+            let chosen = [case / 64, case / 8 % 8, case % 8];
+            let [start, duration, playtime] = chosen.map(|i| timecode(TIMES[i]));
+            let kept = cap(frame_number(start), frame_number(duration), frame_number(playtime));
+            let marks = mark(kept.start_frame, start) + &mark(kept.duration_frames, duration);
+            assert_eq!(!marks.is_empty(), kept.past_playtime == 1, "{start:?} {duration:?}");
+        }
     }
 
     #[test]

@@ -11,9 +11,10 @@ const COPIES: [usize; 2] = [540, 546];
 const TABLE_SECTORS: usize = 6;
 /// The sectors of the sample.
 const SECTORS: usize = 564;
-/// Where a table has its play time, and its list of times.
+/// Where a table has its play time, and the starts and durations of its tracks, four bytes each.
 const PLAYTIME: usize = 64;
-const TIMES: usize = 3 * SECTOR;
+const STARTS: usize = 3 * SECTOR + 8;
+const DURATIONS: usize = 3 * SECTOR + 1028;
 
 /// The lines of a run's output that begin with one of these.
 fn lines<'a>(ran: &'a Ran, begins: &[&str]) -> Vec<&'a str> {
@@ -68,21 +69,31 @@ fn the_second_copy_is_used_where_the_first_is_dropped() {
     assert!(run(&["--json", scratch.name()]).out.contains(code));
 }
 
-#[test]
-fn no_track_is_shown_past_the_play_time() {
+/// The sample with these bytes at places of both copies of the first area's table.
+fn with_table(parts: &[(usize, &[u8])]) -> Vec<u8> {
     let mut image = sample::image();
     for copy in COPIES {
-        let table = &mut image[copy * SECTOR..][..TABLE_SECTORS * SECTOR];
-        // Tracks 2 and 3 run past a play time of 5 minutes, the last one by its start too.
-        table[PLAYTIME..][..3].copy_from_slice(&[5, 0, 0]);
-        table[TIMES + 1028 + 4..][..3].copy_from_slice(&[255, 255, 255]);
+        for (at, bytes) in parts {
+            image[copy * SECTOR + at..][..bytes.len()].copy_from_slice(bytes);
+        }
     }
+    image
+}
+
+#[test]
+fn no_track_is_shown_past_the_play_time() {
+    // Tracks 2 and 3 run past a play time of 5 minutes, the last one by its start too.
+    let image = with_table(&[(PLAYTIME, &[5, 0, 0]), (DURATIONS + 4, &[255, 255, 255])]);
     let scratch = Scratch::new("overrun.iso", &image);
     let listed = run(&[scratch.name()]);
-    let tracks = lines(&listed, &["      1", "      2", "      3"]);
-    assert!(tracks[0].starts_with("      1  00:02.00  04:11.30  "));
-    assert!(tracks[1].starts_with("      2  04:15.30  00:44.45  "));
-    assert!(tracks[2].starts_with("      3  05:00.00  00:00.00  "));
+    let area = "\
+Area 1 (two-channel): stereo, play time 05:00.00, 3 tracks
+  Track     Start                    Duration                       Title              Performer                   ISRC
+      1  00:02.00                    04:11.30                       Prélude à l'étang  Trio Vallémont              ZZTYK2600001
+      2  04:15.30                    00:44.45 (stored 255:255.255)  Über dem Fluß      Trio Vallémont, Änne Sørby  ZZTYK2600002
+      3  05:00.00 (stored 07:20.00)  00:00.00 (stored 05:05.00)     Rondo              Trio Vallémont
+";
+    assert!(listed.out.contains(area), "{}", listed.out);
     let past =
         |track| format!("  area 1, track {track}: ends after the area's play time; cut to it");
     assert_eq!(lines(&listed, &["  area 1,"]), [past(2), past(3)]);
@@ -97,6 +108,28 @@ fn no_track_is_shown_past_the_play_time() {
     ];
     assert_eq!(lines(&dumped, &stored), times);
     assert!(dumped.out.ends_with("\nwarnings 3\n14 1 2\n14 1 3\n14 2 2\n"));
+}
+
+#[test]
+fn stored_times_are_shown_as_the_disc_has_them() {
+    let parts: [(usize, &[u8]); 3] = [
+        (PLAYTIME, &[5, 0, 0]),
+        (STARTS, &[0, 0, 0, 0, 4, 61, 80, 0, 4, 59, 75]),
+        (DURATIONS, &[0, 61, 80, 0, 0, 0, 0, 0, 0, 0, 1]),
+    ];
+    let scratch = Scratch::new("as-stored.iso", &with_table(&parts));
+    let listed = run(&[scratch.name()]);
+    // The first is within the play time, the second cut by its start alone, the third by its duration.
+    let area = "\
+Area 1 (two-channel): stereo, play time 05:00.00, 3 tracks
+  Track     Start                    Duration                    Title              Performer                   ISRC
+      1  00:00.00                    01:02.05                    Prélude à l'étang  Trio Vallémont              ZZTYK2600001
+      2  05:00.00 (stored 04:61.80)  00:00.00                    Über dem Fluß      Trio Vallémont, Änne Sørby  ZZTYK2600002
+      3  05:00.00                    00:00.00 (stored 00:00.01)  Rondo              Trio Vallémont
+";
+    assert!(listed.out.contains(area), "{}", listed.out);
+    let stored = r#""stored_start": {"minutes": 4, "seconds": 61, "frames": 80}"#;
+    assert!(run(&["--json", scratch.name()]).out.contains(stored));
 }
 
 #[test]
