@@ -154,35 +154,33 @@ fn items_are_drawn_to_the_end() {
     }
 }
 
-/// Stored starts and durations, and what they are capped to in a play time of 4,500 frames.
-const CAPPED: [([u8; 3], [u8; 3], (u32, u32)); 8] = [
-    ([0, 0, 0], [1, 0, 0], (0, 4500)),
-    ([0, 0, 0], [1, 0, 1], (0, 4500)),
-    ([0, 58, 75], [0, 0, 75], (4425, 75)),
-    ([0, 58, 75], [0, 0, 76], (4425, 75)),
-    ([0, 0, 200], [0, 57, 25], (200, 4300)),
-    ([0, 60, 0], [0, 0, 0], (4500, 0)),
-    ([0, 61, 0], [0, 0, 0], (4500, 0)),
-    ([255, 255, 255], [255, 255, 255], (4500, 0)),
-];
-
 #[test]
 fn times_are_capped_and_as_stored() {
-    let mut table = example(3, &[(69, &[CAPPED.len() as u8])]);
-    for (i, (start, duration, _)) in CAPPED.iter().enumerate() {
-        // The flags stand behind each timecode.
-        table[4104 + 4 * i..][..4].copy_from_slice(&[start[0], start[1], start[2], 90]);
-        table[5124 + 4 * i..][..4].copy_from_slice(&[duration[0], duration[1], duration[2], 91]);
+    // The play time is 4,500 frames.
+    let expected = [
+        times(0, 4500, [0, 0, 0], [1, 0, 0]),
+        times(0, 4500, [0, 0, 0], [1, 0, 1]),
+        times(4425, 75, [0, 58, 75], [0, 0, 75]),
+        times(4425, 75, [0, 58, 75], [0, 0, 76]),
+        times(200, 4300, [0, 0, 200], [0, 57, 25]),
+        times(4500, 0, [0, 60, 0], [0, 0, 0]),
+        times(4500, 0, [0, 61, 0], [0, 0, 0]),
+        times(4500, 0, [255, 255, 255], [255, 255, 255]),
+    ];
+    let bytes = |time: Timecode, flags| [time.minutes, time.seconds, time.frames, flags];
+    let mut table = example(3, &[(69, &[expected.len() as u8])]);
+    for (i, times) in expected.iter().enumerate() {
+        table[4104 + 4 * i..][..4].copy_from_slice(&bytes(times.stored_start, 90));
+        table[5124 + 4 * i..][..4].copy_from_slice(&bytes(times.stored_duration, 91));
     }
     let (answer, lent) = read(&table);
-    for (track, (start, duration, capped)) in lent.tracks.iter().zip(CAPPED) {
-        assert_eq!(track.times, times(capped.0, capped.1, start, duration));
-        assert_eq!((track.start_flags, track.duration_flags), (90, 91));
+    let (tracks, behind) = lent.tracks.split_at(expected.len());
+    for (track, times) in tracks.iter().zip(expected) {
+        assert_eq!((track.times, track.start_flags, track.duration_flags), (times, 90, 91));
     }
     let past = lent.words[..answer.warnings].iter().filter(|&word| word >> 16 == 14);
     assert!(past.map(|word| word & 255).eq([2, 4, 7, 8]));
-    assert_eq!(lent.tracks[CAPPED.len()..], [Track::default(); 247]);
-    assert_eq!(Track::default().times, times(0, 0, [0; 3], [0; 3]));
+    assert!(behind.iter().all(|track| track.times == times(0, 0, [0; 3], [0; 3])));
 }
 
 #[test]
