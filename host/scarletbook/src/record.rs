@@ -230,7 +230,7 @@ impl Area {
 /// use scarletbook::raw::frame_number;
 /// use scarletbook::record::{Frame, Timecode};
 ///
-/// // The table of an area of five minutes, whose one track starts at the fourth, is in `table`.
+/// // In `table` is the table of an area that plays 5:00.00; its track starts at 4:00.00.
 /// let read = Table::read(&table)?;
 /// let times = read.area().unwrap().track(1).unwrap().times;
 /// assert_eq!(times.stored_start, Timecode { minutes: 4, seconds: 0, frames: 0 });
