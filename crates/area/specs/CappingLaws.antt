@@ -25,6 +25,7 @@ use Rattle.area.specs.Table.{Table, withAddress, areaOf, ofSlot, dsd64, 
 use Rattle.area.specs.TableLaws.{by-skip, area-of, address-tracks, address-warnings, address-playtime, tracks-count, tracks-most, warnings-most, head-skips, area-yields, addressed-track-count, addressed-playtime}
 use Rattle.area.specs.Tabulate.{tabulate}
 use Rattle.area.specs.TabulateLaws.{map-tabulate}
+use Rattle.area.specs.Timecode.{frameNumber}
 use Rattle.area.specs.Track.{cappedTimes, timesOf, trackOf}
 use Rattle.area.specs.TrackLaws.{track-within, track-warned, track-number, text-not-past}
 use Rattle.area.specs.Warning.{wordOf, trackPastPlaytime, trackLsnOutsideArea, sampleFrequencyUnknown}
@@ -78,15 +79,23 @@ module _ (table : List ℕ) (area : Area) (chain : Chain) (slot : ℕ) where
   abbrev fourteen : ℕ → Warning
   fourteen i = pastPlaytime slot (read i .track .number)
 
+  -- its stored times exceed the play time
+  abbrev Over : ℕ → Type 0
+  Over i = frameNumber (area .playtime) .0 < storedStart (read i .track) .0 + storedDuration (read i .track) .0
+
   -- by its own 14
   capping-own : (i : ℕ) → Capping (λ w. w) (whenTrue (read i .«past_playtime») (fourteen i)) slot (area .playtime) (read i .track)
   unfolding trackOf timesOf cappedTimes storedStart storedDuration exceeds
   capping-own i = record {
     start = refl;
     duration = refl;
-    within = track-within table area chain i;
-    comes = λ e. (0, when-stands (fourteen i) (read i .«past_playtime») (track-warned table area chain i ∙ lt-ltb _ _ e));
-    only = λ place s. ltb-true _ _ (sym (track-warned table area chain i) ∙ stands-when (fourteen i) (read i .«past_playtime») place s .0);
+    within = omega (arith, track-within table area chain i);
+    comes = λ e.
+        let over : Over i = omega (arith, e) in
+        (0, when-stands (fourteen i) (read i .«past_playtime») (track-warned table area chain i ∙ lt-ltb _ _ over));
+    only = λ place s.
+        let over : Over i = ltb-true _ _ (sym (track-warned table area chain i) ∙ stands-when (fourteen i) (read i .«past_playtime») place s .0) in
+        omega (arith, over);
     once = λ place place′ s s′.
         let p = stands-when (fourteen i) (read i .«past_playtime») place s .1 in
         let p′ = stands-when (fourteen i) (read i .«past_playtime») place′ s′ .1 in omega arith;

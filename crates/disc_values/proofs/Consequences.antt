@@ -20,13 +20,13 @@ use Rattle.disc_values.specs.declared.reading.Reading.{Reading}
 use Rattle.disc_values.proofs.reading.read_disc_by_value as read
 
 -- the arguments of a call, and what it returns: the list of tracks is of both
-record ByValue : Type 0 where
-  format : ℕ
-  image : Lent ℕ
-  work : Lent ℕ
-  tracks : List Track
-  words : Lent ℕ
-  reading : Reading
+pub record ByValue : Type 0 where
+  pub format : ℕ
+  pub image : Lent ℕ
+  pub work : Lent ℕ
+  pub tracks : List Track
+  pub words : Lent ℕ
+  pub reading : Reading
 
 abbrev call : ByValue → Call
 call x = record {
