@@ -151,7 +151,8 @@ module _ (s : Source) (z : Sized s) (format : ℕ) (memory : Memory) where
       let x = chosen s (pointerOf table slot) in
       let e = sym (passed-yields s z format memory table p slot) ∙ c .is-yielded in
       let m = subst (List·Memᴰ t) (yielded-tracks slot (c .area) x e) (c .member) in
-      rw (words-back table p, yielded-area slot (c .area) x e) (slot-capping-words s table slot t m)
+      subst (λ (words : List ℕ). Capping wordOf words (slotNumber slot) (c .area .area .playtime) t) (sym (words-back table p))
+      (rw (yielded-area slot (c .area) x e) (slot-capping-words s table slot t m))
 
   pub source-capped : TracksCapped (readSource s format memory)
   source-capped slot t c =

@@ -1,6 +1,6 @@
--- The worked table has the printed listing: the definitions of the layers are computed. Assumes nothing.
+-- The worked table has the printed listing, and with two tracks it has their times: the definitions of the layers are computed. Assumes nothing.
 use mathlib.Core.Path.{_≡_, refl}
-use mathlib.Core.List.{flatMap}
+use mathlib.Core.List.{map, flatMap}
 use Rattle.sectors.specs.Bytes.{same}
 use Rattle.sectors.specs.Fill.{part, fill}
 use Rattle.sectors.specs.Number.{beAt}
@@ -10,18 +10,19 @@ use Rattle.area.specs.Cap.{exceeds, capped, capOf}
 use Rattle.area.specs.Chain.{structureAt, sectorsOf, noted, walkFrom, nothingKept, chainOf}
 use Rattle.area.specs.Lent.{whenTrue}
 use Rattle.area.specs.Locale.{localeCount}
-use Rattle.area.specs.Lone.{isOddTable, isShort, loneOf}
+use Rattle.area.specs.Lone.{isOddTable, isShort, loneSlot, loneOf}
 use Rattle.area.specs.Skip.{listMissing, isMalformed, isReversed, skipBy, skipOf}
-use Rattle.area.specs.Table.{frequencyWarnings, ofTrack, trackWarnings, readsOf, tracksOf, tracksWarnings, yieldOf, tableOf, withAddress, areaOf}
+use Rattle.area.specs.Table.{frequencyWarnings, ofTrack, trackWarnings, readsOf, tracksOf, tracksWarnings, yieldOf, tableOf, withAddress, areaOf, tracksGiven}
 use Rattle.area.specs.Tabulate.{tabulate}
 use Rattle.area.specs.Timecode.{timecodeAt, frameNumber}
 use Rattle.area.specs.Track.{storedTimes, cappedTimes, timesOf, isOutside, trackOf}
 use Rattle.area.specs.TrackText.{noText, trackTextOf}
 use Rattle.area.specs.Units.{lsnAt}
+use Rattle.area.specs.declared.track.Track.{Track}
 use Rattle.listing_text.specs.Decimal.{digit, digitsWithin, decimal}
 use Rattle.listing_text.specs.Line.{nextField, fieldsOf, lineOf, wordLine}
 use Rattle.listing_text.specs.Listing.{section, trackLine, warningLine, localesOf, sectionsOf, loneListing, listingOf}
-use Rattle.worked.specs.Example.{ascii, fourBytes, exampleTable, exampleListing}
+use Rattle.worked.specs.Example.{ascii, fourBytes, exampleTable, exampleListing, storedTable, storedTableTimes}
 
 pub example-listed : listingOf exampleTable ≡ exampleListing
 unfolding
@@ -31,3 +32,10 @@ unfolding
     addressed kindOf localeCount trackOf isOutside timesOf cappedTimes storedTimes trackTextOf noText capOf capped exceeds frameNumber timecodeAt lsnAt
     tabulate beAt signedAt same part fill
 example-listed = refl
+
+pub example-stored : map (λ (t : Track). t .times) (tracksGiven (tableOf storedTable loneSlot 3)) ≡ storedTableTimes
+unfolding
+    ascii fourBytes exampleTable storedTable storedTableTimes tracksGiven tableOf yieldOf tracksWarnings tracksOf readsOf skipOf skipBy listMissing isMalformed isReversed
+    chainOf nothingKept walkFrom noted sectorsOf structureAt recordOf kindOf trackOf timesOf cappedTimes storedTimes capOf capped exceeds frameNumber timecodeAt lsnAt tabulate
+    beAt signedAt same part fill
+example-stored = refl
