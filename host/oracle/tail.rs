@@ -1,6 +1,8 @@
 // Appended by oracle/copy, not the customer's: this module's private items, for the comparison.
 pub mod private {
-    use super::{Area, AreaPointer, Error, Image, MasterToc, Read, Seek, Slot, Warning, Warnings};
+    use super::{
+        Area, AreaPointer, Error, Image, MasterToc, Read, Seek, Slot, TrackTimecodes, Warning, Warnings,
+    };
 
     pub fn byte(b: &[u8], at: usize) -> u8 {
         super::byte(b, at)
@@ -14,15 +16,15 @@ pub mod private {
         super::be32(b, at)
     }
 
-    /// The area that a slot yields, if it does, and the warnings.
+    /// The area that a slot yields, if it does, with the stored times of its tracks; and the warnings.
     pub fn read_area<R: Read + Seek>(
         img: &mut Image<R>,
         slot: Slot,
         ptr: AreaPointer,
-    ) -> Result<(Option<Area>, Vec<Warning>), Error> {
+    ) -> Result<(Option<(Area, Vec<TrackTimecodes>)>, Vec<Warning>), Error> {
         let mut warnings = Warnings { list: Vec::new(), log: img.log().clone() };
         let read = super::read_area(img, slot, ptr, &mut warnings)?;
-        Ok((read.map(|(area, _, _)| area), warnings.list))
+        Ok((read.map(|(area, _, timecodes)| (area, timecodes)), warnings.list))
     }
 
     /// The master record and the warnings of a disc, whether a slot yields an area or not.

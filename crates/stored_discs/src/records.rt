@@ -171,6 +171,8 @@ fn put_times(times: TrackTimes) {
     let duration = times.duration_frames;
     put_u32(start.0);
     put_u32(duration.0);
+    put_timecode(times.stored_start);
+    put_timecode(times.stored_duration);
 }
 
 // Writes the line of a track.

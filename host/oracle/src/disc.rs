@@ -2,7 +2,8 @@
 
 use crate::error::{Error, Slot, Warning};
 use crate::image::{Image, SectorFormat};
-use crate::toc::{MasterToc, Timecode, Toc, TocStored, private, read_toc};
+use crate::lone::Times;
+use crate::toc::{Area, MasterToc, Toc, TocStored, private, read_toc};
 use std::io::Cursor;
 
 /// What an image gives.
@@ -20,8 +21,14 @@ pub struct Stored(TocStored);
 
 impl Stored {
     /// The start and the duration of a track, by its number from 1.
-    pub fn timecodes(&self, slot: Slot, number: u8) -> Option<(Timecode, Timecode)> {
+    pub fn timecodes(&self, slot: Slot, number: u8) -> Option<Times> {
         self.0.track_timecodes(slot, number.into())
+    }
+
+    /// Those of an area's tracks in their order, up to the first that has none.
+    pub fn times(&self, area: &Area) -> Vec<Times> {
+        let tracks = area.tracks.iter();
+        tracks.map_while(|track| self.timecodes(area.slot, track.number)).collect()
     }
 }
 

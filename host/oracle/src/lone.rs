@@ -2,11 +2,23 @@
 
 use crate::error::{Error, Slot, Warning};
 use crate::image::{Image, SECTOR_SIZE, SectorFormat};
-use crate::toc::{Area, AreaPointer, private};
+use crate::toc::{Area, AreaPointer, Timecode, private};
 use std::io::Cursor;
+
+/// A track's start and duration, as stored.
+pub type Times = (Timecode, Timecode);
+
+/// An area, and the stored times of its tracks in their order.
+pub type Timed = (Area, Vec<Times>);
 
 /// What a table of whole sectors, at most 128, yields: an area or nothing, and the warnings.
 pub fn read_lone(table: &[u8]) -> Result<(Option<Area>, Vec<Warning>), Error> {
+    let (read, warnings) = read_timed(table)?;
+    Ok((read.map(|(area, _)| area), warnings))
+}
+
+/// The same, with the stored times.
+pub fn read_timed(table: &[u8]) -> Result<(Option<Timed>, Vec<Warning>), Error> {
     let options = Image::options().with_format(SectorFormat::Plain);
     let mut image = options.open(Cursor::new(table))?;
     let toc_sectors = (table.len() / SECTOR_SIZE) as u16;

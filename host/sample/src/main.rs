@@ -1,7 +1,8 @@
 //! Stores tables and discs, and what the customer's Rust answers to them, for the programs `replay`,
 //! `stored_tables` and `stored_discs`, which need no Rust; and a table with its items by the plain
 //! walk, for `draws`; and images with what the plain gathering gives of them, for `stored_images`.
-//! `--check` asks the Rust again about what is stored, and walks and gathers again.
+//! `--check` asks the Rust again about what is stored, and walks and gathers again; `--answers` stores
+//! what these answer, and leaves the tables and discs as they are stored.
 //!
 //! Exit status: 0 all is written, or is what must be stored; 1 something else is stored; 2 bad
 //! usage, a file that cannot be read or written, or a walk whose items are not the Rust's texts.
@@ -20,7 +21,7 @@ use std::io::{Error, ErrorKind, Result};
 use std::path::Path;
 use std::process::ExitCode;
 
-const USAGE: &str = "usage: sample [--check] CRATES";
+const USAGE: &str = "usage: sample [--check | --answers] CRATES";
 
 /// Tables at random beside those with a name, and the bytes that one is stored in at most.
 const RANDOM: usize = 150;
@@ -121,6 +122,10 @@ fn write(crates: &Path) -> Result<u8> {
     write_discs(crates)?;
     fs::create_dir_all(crates.join("draws"))?;
     fs::create_dir_all(crates.join("stored_images"))?;
+    write_answers(crates)
+}
+
+fn write_answers(crates: &Path) -> Result<u8> {
     for (file, bytes) in checked(crates)? {
         fs::write(crates.join(file), bytes)?;
     }
@@ -142,6 +147,7 @@ fn main() -> ExitCode {
     let words: Vec<_> = std::env::args().skip(1).collect();
     let result = match &words[..] {
         [word, crates] if word == "--check" => check(Path::new(crates)),
+        [word, crates] if word == "--answers" => write_answers(Path::new(crates)),
         [crates] if !crates.starts_with('-') => write(Path::new(crates)),
         _ => Err(Error::new(ErrorKind::InvalidInput, USAGE)),
     };

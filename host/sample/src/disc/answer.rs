@@ -2,14 +2,14 @@
 
 use super::{Stored, chosen};
 use generate::disc::Disc;
-use oracle::disc::{Disc as Answer, read_disc};
+use oracle::disc::{Disc as Answer, Stored as StoredTimes, read_stored};
 use oracle::error::{Slot, Warning};
 use oracle::image::SectorFormat;
-use oracle::lone::{numbers, slot_number};
+use oracle::lone::{Times, numbers, slot_number};
 use oracle::text::Charset;
 use oracle::toc::{
-    Area, AreaKind, AreaPointer, AreaTextItem, DiscTextItem, Genre, Locale, MasterToc, Toc, Track,
-    TrackTextItem,
+    Area, AreaKind, AreaPointer, AreaTextItem, DiscTextItem, Genre, Locale, MasterToc, Timecode,
+    Toc, Track, TrackTextItem,
 };
 use std::fmt::Display;
 
@@ -52,7 +52,7 @@ impl<'a> Reading<'a> {
 /// The lines of a stored disc.
 pub fn lines(stored: &Stored) -> String {
     let disc = &stored.disc;
-    let answer = read_disc(sector_format(disc.format), &disc.bytes);
+    let (answer, times) = read_stored(sector_format(disc.format), &disc.bytes);
     let reading = Reading::new(&answer);
     let mut text = String::new();
     put_head(&mut text, &stored.name, disc, &reading);
@@ -62,7 +62,7 @@ pub fn lines(stored: &Stored) -> String {
     }
     for slot in Slot::ALL {
         match reading.toc.and_then(|toc| toc.area(slot)) {
-            Some(area) => put_area(&mut text, area),
+            Some(area) => put_area(&mut text, area, &times),
             None => line(&mut text, "area", [0; AREA_NUMBERS]),
         }
     }
@@ -106,14 +106,15 @@ fn put_master(text: &mut String, master: &MasterToc) {
     put_texts(text, texts, master.text_charset);
 }
 
-fn put_area(text: &mut String, area: &Area) {
+fn put_area(text: &mut String, area: &Area, times: &StoredTimes) {
     let numbers = area_numbers(area);
     assert_eq!(numbers.len(), AREA_NUMBERS);
     line(text, "area", numbers);
     let texts = AreaTextItem::ALL.iter().map(|&item| area.text.get(item));
     put_texts(text, texts, area.text_charset);
     for track in &area.tracks {
-        line(text, "track", track_numbers(track));
+        let times = times.timecodes(area.slot, track.number).expect("every track has its times");
+        line(text, "track", track_numbers(track, times));
         let texts = TrackTextItem::ALL.iter().map(|&item| track.text.get(item));
         put_texts(text, texts, area.text_charset);
     }
@@ -192,12 +193,14 @@ fn area_numbers(area: &Area) -> Vec<u64> {
 }
 
 /// An absent ISRC or genre is zero, behind a flag.
-fn track_numbers(track: &Track) -> Vec<u64> {
+fn track_numbers(track: &Track, (start, duration): Times) -> Vec<u64> {
     let times = [track.start_lsn, track.length_sectors, track.start_frame, track.duration_frames];
     let isrc = track.isrc.as_deref().unwrap_or_default();
     [
         vec![track.number.into()],
         times.map(u64::from).to_vec(),
+        timecode(start),
+        timecode(duration),
         vec![track.start_flags.into(), track.duration_flags.into()],
         vec![track.isrc.is_some().into()],
         fixed(&one_a_character(isrc)),
@@ -205,6 +208,10 @@ fn track_numbers(track: &Track) -> Vec<u64> {
         track.genre.map_or([0; 2], genre).to_vec(),
     ]
     .concat()
+}
+
+fn timecode(time: Timecode) -> Vec<u64> {
+    [time.minutes, time.seconds, time.frames].map(u64::from).to_vec()
 }
 
 fn genre(genre: Genre) -> [u64; 2] {
