@@ -2,6 +2,7 @@
 
 use crate::disc::{CODES, READS};
 use crate::tally::Kind;
+use crate::tracks::{OF_DISCS, OF_TABLES};
 use crate::values::Taken;
 use scarletbook::{Refusal, WarningCode};
 
@@ -9,7 +10,7 @@ use scarletbook::{Refusal, WarningCode};
 type Line = (String, &'static str, String);
 
 /// The lines of a run over discs, but for refusals and warnings.
-const DISCS: [(&str, &str, &str); 28] = [
+const DISCS: [(&str, &str, &str); 34] = [
     ("images in format 0", READS, "image of format 0"),
     ("images in format 1", READS, "image of format 1"),
     ("images in format 2", READS, "image of format 2"),
@@ -31,6 +32,9 @@ const DISCS: [(&str, &str, &str); 28] = [
     ("discs with an area in slot 2 alone", "discs, slots", "2 alone yields"),
     ("discs with `MULCHTOC` in slot 1", "discs, slots", "MULCHTOC in 1"),
     ("discs with `TWOCHTOC` in slot 2", "discs, slots", "TWOCHTOC in 2"),
+    ("discs with tracks", OF_DISCS, "discs with tracks"),
+    ("tracks of discs, each with its stored times", OF_DISCS, ""),
+    ("tracks of discs that are capped", OF_DISCS, "cut"),
     ("disc texts", "disc texts", ""),
     ("area texts", "disc area texts", ""),
     ("track texts", "disc track texts", ""),
@@ -38,6 +42,9 @@ const DISCS: [(&str, &str, &str); 28] = [
     ("dumps", "dumps", ""),
     ("lines of dumps", "dumps", "lines"),
     ("lone tables", "read_table", ""),
+    ("lone tables with tracks", OF_TABLES, "tables with tracks"),
+    ("tracks of lone tables, each with its stored times", OF_TABLES, ""),
+    ("tracks of lone tables that are capped", OF_TABLES, "cut"),
 ];
 
 /// The lines of the table, for a document.
@@ -104,7 +111,8 @@ fn numbers_are_grouped() {
 
 #[test]
 fn every_line_has_its_class() {
-    let kinds = crate::disc::kinds(1, 0);
+    let mut kinds = crate::disc::kinds(1, 0);
+    kinds.push(crate::tracks::Tracks::of_tables().stored);
     for (words, kind, class) in lines().iter().filter(|line| line.1 != "read_table") {
         let kind = kinds.iter().find(|other| other.name == *kind).expect(words);
         let known = class.is_empty() || kind.classes.iter().any(|other| other.0 == class);

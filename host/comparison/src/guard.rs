@@ -1,7 +1,9 @@
 //! What is lent to the library, in the middle of more memory. All of it has a pattern.
 
 use generate::image::pattern;
-use scarletbook::raw::{FixedText, Frame, Genre, Lsn, TRACK_TEXTS, TextPlace, Track, TrackTimes};
+use scarletbook::raw::{
+    FixedText, Frame, Genre, Lsn, TRACK_TEXTS, TextPlace, Timecode, Track, TrackTimes,
+};
 use std::ops::{Deref, DerefMut};
 use std::sync::atomic::{AtomicBool, Ordering};
 
@@ -112,16 +114,22 @@ pub fn patterned_tracks(salt: usize, count: usize) -> Vec<Track> {
 }
 
 /// The words that give a record a value in each field.
-pub const TRACK_WORDS: usize = 25;
+pub const TRACK_WORDS: usize = 26;
 
 pub fn track_of(words: &[u32; TRACK_WORDS]) -> Track {
     let byte = |at: usize| words[at / 4].to_le_bytes()[at % 4];
+    let timecode = |at| Timecode { minutes: byte(at), seconds: byte(at + 1), frames: byte(at + 2) };
     let text = &words[TRACK_WORDS - TRACK_TEXTS..];
     Track {
         number: byte(0),
         start_lsn: Lsn(words[1]),
         length_sectors: words[2],
-        times: TrackTimes { start_frame: Frame(words[3]), duration_frames: Frame(words[4]) },
+        times: TrackTimes {
+            start_frame: Frame(words[3]),
+            duration_frames: Frame(words[4]),
+            stored_start: timecode(40),
+            stored_duration: timecode(43),
+        },
         start_flags: byte(1),
         duration_flags: byte(2),
         has_isrc: byte(3),

@@ -4,7 +4,7 @@ use crate::plain;
 use crate::rust::{FAILED, one_a_character, padded};
 use generate::table::Structure;
 use oracle::error::Warning;
-use oracle::lone::{numbers, read_lone, slot_number};
+use oracle::lone::{Times, numbers, read_timed, slot_number};
 use oracle::toc::{self, AreaKind};
 use scarletbook::raw::{
     Area, FixedText, Frame, Genre, LanguageCode, Locale, Lsn, TableAnswer, TableOrigin, Timecode,
@@ -23,15 +23,17 @@ pub struct Lone {
 
 impl Lone {
     pub fn read(table: &[u8]) -> Self {
-        let (refusal, rust, warnings) = match read_lone(table) {
-            Ok((Some(area), warnings)) => (0, Some(area), warnings),
+        let (refusal, read, warnings) = match read_timed(table) {
+            Ok((Some(read), warnings)) => (0, Some(read), warnings),
             Ok((None, warnings)) => (6, None, warnings),
             Err(_) => (FAILED, None, vec![]),
         };
         let words = warnings.iter().map(word).collect();
-        let area = rust.as_ref().map_or_else(Area::default, |area| area_record(table, area));
-        let tracks = rust.as_ref().map_or_else(Vec::new, |area| track_records(table, area));
-        Lone { refusal, rust, words, area, tracks }
+        let Some((rust, times)) = read else {
+            return Lone { refusal, rust: None, words, area: Area::default(), tracks: vec![] };
+        };
+        let (area, tracks) = (area_record(table, &rust), track_records(table, &rust, &times));
+        Lone { refusal, rust: Some(rust), words, area, tracks }
     }
 
     pub fn answer(&self) -> TableAnswer {
@@ -50,7 +52,6 @@ pub fn area_record(table: &[u8], area: &toc::Area) -> Area {
         *record = locale_record(locale);
     }
     let toc::Version { major, minor } = area.version;
-    let toc::Timecode { minutes, seconds, frames } = area.playtime;
     Area {
         present: 1,
         origin: TableOrigin {
@@ -71,7 +72,7 @@ pub fn area_record(table: &[u8], area: &toc::Area) -> Area {
         max_available_channels: area.max_available_channels,
         area_mute_flags: area.area_mute_flags,
         track_attribute: area.track_attribute,
-        playtime: Timecode { minutes, seconds, frames },
+        playtime: timecode(area.playtime),
         track_offset: area.track_offset,
         track_count: area.tracks.len() as u16,
         audio_start_lsn: Lsn(area.audio_start_lsn),
@@ -90,17 +91,23 @@ pub fn locale_record(locale: &toc::Locale) -> Locale {
     Locale { language, language_code: locale.language_code, charset: locale.charset }
 }
 
-pub fn track_records(table: &[u8], area: &toc::Area) -> Vec<Track> {
+fn timecode(time: toc::Timecode) -> Timecode {
+    let toc::Timecode { minutes, seconds, frames } = time;
+    Timecode { minutes, seconds, frames }
+}
+
+/// The records of the tracks that the Rust gives stored times of.
+pub fn track_records(table: &[u8], area: &toc::Area, times: &[Times]) -> Vec<Track> {
     let block = plain::first_of(&plain::met(table), Structure::TrackText);
-    let records = area.tracks.iter().enumerate().map(|(i, track)| Track {
+    let records = area.tracks.iter().zip(times).enumerate().map(|(i, (track, times))| Track {
         text: plain::places(&plain::track_items(table, plain::text_at(table, block, i))),
-        ..track_record(track)
+        ..track_record(track, *times)
     });
     records.collect()
 }
 
 /// The record of a track, without the places of its texts.
-fn track_record(track: &toc::Track) -> Track {
+fn track_record(track: &toc::Track, (start, duration): Times) -> Track {
     let (bytes, len) = padded(&one_a_character(track.isrc.as_deref().unwrap_or_default()));
     let genre = track.genre.map(|toc::Genre { category, index }| Genre { category, index });
     Track {
@@ -110,6 +117,8 @@ fn track_record(track: &toc::Track) -> Track {
         times: TrackTimes {
             start_frame: Frame(track.start_frame),
             duration_frames: Frame(track.duration_frames),
+            stored_start: timecode(start),
+            stored_duration: timecode(duration),
         },
         start_flags: track.start_flags,
         duration_flags: track.duration_flags,

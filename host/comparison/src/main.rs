@@ -4,6 +4,7 @@
 //! that fails, or a class of cases is empty or too small, so that the comparison would say nothing
 //! about it.
 
+mod capping;
 mod command;
 mod coverage;
 mod cuts;
@@ -32,6 +33,7 @@ mod tape;
 mod texts;
 mod threads;
 mod times;
+mod tracks;
 mod values;
 
 use draws::Draws;
@@ -129,10 +131,10 @@ fn areas(options: &Options) -> Vec<Kind> {
     for case in 0..options.texts {
         draws.any_case(&mut Rng::of_case(options.seed, case));
     }
-    let Tables { read, heads, shapes } = tables;
+    let Tables { read, heads, shapes, tracks: handed } = tables;
     let Shapes { walk, head, tracks, items, .. } = shapes;
     let Texts { area, track, lies } = texts;
-    let records = [read, heads, walk, head, tracks, items];
+    let records = [read, handed.stored, handed.capping, heads, walk, head, tracks, items];
     records.into_iter().chain([area, track, lies, draws.text, draws.any]).collect()
 }
 

@@ -6,6 +6,7 @@ use crate::lone::Lone;
 use crate::sectors::Buffer;
 use crate::shapes::Shapes;
 use crate::tally::Kind;
+use crate::tracks::{Handed, Tracks};
 use generate::Rng;
 use generate::layout::DATA;
 use generate::table::MOST_SECTORS;
@@ -41,6 +42,7 @@ pub struct Tables {
     pub read: Kind,
     pub heads: Kind,
     pub shapes: Shapes,
+    pub tracks: Tracks,
 }
 
 impl Tables {
@@ -57,6 +59,7 @@ impl Tables {
             ),
             heads: heads::kind(),
             shapes: Shapes::new(),
+            tracks: Tracks::of_tables(),
         }
     }
 
@@ -100,6 +103,9 @@ impl Tables {
         count(kind, table.len(), tracks, words, expected.refusal);
         let skipped = lone.is_some_and(|lone| lone.rust.is_none());
         kind.class_if("2 before 6", expected.refusal == 2 && skipped);
+        let rust = written(&expected, lone);
+        let handed = Handed { area: answer.area, tracks: &ours.tracks, rust };
+        self.tracks.table(&question, handed, first(&ours.words, answer.warnings));
     }
 
     /// Counts whether at least half of the tables are accepted.
@@ -136,6 +142,11 @@ fn written<'a>(answer: &TableAnswer, lone: Option<&'a Lone>) -> &'a [Track] {
         Some(lone) if answer.refusal == 0 => &lone.tracks,
         _ => &[],
     }
+}
+
+/// The first of a list, so many as there are.
+pub fn first<T>(list: &[T], count: usize) -> &[T] {
+    &list[..count.min(list.len())]
 }
 
 /// Writes to the start of a list what fits.

@@ -60,7 +60,7 @@ pub struct Rules {
 impl Rules {
     /// The rules of an uncut image that is accepted, or silent; by the Rust.
     pub fn of(disc: &Disc) -> Self {
-        let (rust, _) = read(disc).expect("0, 1 and 2 are formats");
+        let rust = read(disc).expect("0, 1 and 2 are formats");
         let Answer { refusal, master, .. } = Answer::of(disc, rust);
         assert!(matches!(refusal, 0 | 6), "the uncut image is refused with {refusal}");
         let slots = [(1, master.two_channel), (2, master.multichannel)].map(|(slot, pointer)| {

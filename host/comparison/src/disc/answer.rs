@@ -36,13 +36,13 @@ pub fn read(disc: &Disc) -> Option<(Rust, Stored)> {
 
 impl Answer {
     /// By what the Rust gives of a disc.
-    pub fn of(disc: &Disc, rust: Rust) -> Self {
+    pub fn of(disc: &Disc, (rust, stored): (Rust, Stored)) -> Self {
         let refusal = rust.refusal().unwrap_or(FAILED);
         let cut = disc.sectors() < MASTER + MASTER_SECTORS;
         match rust {
             // By no rule: there is no master table.
             _ if cut && refusal != 3 => Answer::refused(FAILED),
-            Rust::Accepted(toc, warnings) => Answer::accepted(disc, toc, &warnings),
+            Rust::Accepted(toc, warnings) => Answer::accepted(disc, toc, &stored, &warnings),
             Rust::Silent(master, warnings) => Answer::silent(disc, &master, &warnings),
             Rust::Refused(_) => Answer::refused(refusal),
         }
@@ -65,13 +65,13 @@ impl Answer {
         }
     }
 
-    fn accepted(disc: &Disc, toc: Toc, warnings: &[Warning]) -> Self {
+    fn accepted(disc: &Disc, toc: Toc, stored: &Stored, warnings: &[Warning]) -> Self {
         let mut answer = Answer { refusal: 0, ..Answer::silent(disc, &toc.master, warnings) };
         for (at, slot) in Slot::ALL.into_iter().enumerate() {
             if let Some(area) = toc.area(slot) {
                 let table = answer.tables[at].as_deref().unwrap_or_default();
                 answer.areas[at] = area_record(table, area);
-                answer.tracks[at] = track_records(table, area);
+                answer.tracks[at] = track_records(table, area, &stored.times(area));
             }
         }
         answer.toc = Some(toc);

@@ -100,7 +100,7 @@ impl Run {
         formats.case(case, &disc, &disc.bytes);
         let rust = answer::read(&disc);
         dumps.case(case, &disc, rust.as_ref());
-        let rust = rust.map(|(rust, _)| Answer::of(&disc, rust));
+        let rust = rust.map(|rust| Answer::of(&disc, rust));
         if let Some(answer) = reads.case(rng, case, &disc, rust, memory) {
             shapes.count(&disc, &answer);
             texts.cases(rng, &answer, &memory.ours);
@@ -112,10 +112,11 @@ impl Run {
 
 impl Tallies {
     fn kinds(self) -> Vec<Kind> {
-        let Reads { read, codes } = self.reads;
+        let Reads { read, codes, tracks } = self.reads;
         let Shapes { copies, slots, master } = self.shapes;
         let Texts { disc, area, track } = self.texts;
-        let records = [read, codes, copies, slots, master, self.formats.kind, self.dumps.kind];
-        records.into_iter().chain([disc, area, track, self.lies.kind]).collect()
+        let records = [read, codes, tracks.stored, tracks.capping, copies, slots, master];
+        let found = [self.formats.kind, self.dumps.kind];
+        records.into_iter().chain(found).chain([disc, area, track, self.lies.kind]).collect()
     }
 }

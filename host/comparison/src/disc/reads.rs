@@ -1,12 +1,15 @@
 //! Reading: the answer, and every lent byte, record and word.
 
 use super::answer::Answer;
-use super::memory::{Memory, Room};
+use super::memory::{Lent, Memory, Room};
 use crate::rust::sector_format;
+use crate::tables::first;
 use crate::tally::Kind;
+use crate::tracks::{Handed, Tracks};
 use generate::Rng;
 use generate::disc::{Disc, MASTER, MASTER_SECTORS};
 use oracle::disc::detected;
+use scarletbook::raw::{DiscAnswer, FIRST_TRACKS};
 
 /// The names of the two kinds.
 pub const READS: &str = "read_disc";
@@ -56,6 +59,7 @@ pub struct Reads {
     pub read: Kind,
     /// Each refusal, and each warning once for an image.
     pub codes: Kind,
+    pub tracks: Tracks,
 }
 
 impl Reads {
@@ -85,6 +89,7 @@ impl Reads {
         Reads {
             read: Kind::new(READS, &read.concat()),
             codes: Kind::new(CODES, &[&REFUSALS[..], &warnings].concat()),
+            tracks: Tracks::of_discs(),
         }
     }
 
@@ -123,9 +128,11 @@ impl Reads {
         let record = answer.record();
         self.read.values.note(&library, &record);
         memory.note_tracks(&answer, &mut self.read.values);
-        let [library, rust] = memory.left(library, record);
+        let [ours, theirs] = memory.left(library, record);
         let question = Question { case, format: disc.format, bytes: disc.bytes.len(), room };
-        self.read.case(&question, answer.refusal, library, rust);
+        self.read.case(&question, answer.refusal, ours, theirs);
+        let words = first(&memory.ours.words, library.warnings);
+        self.tracks.disc(&question, handed(&library, &memory.ours, &answer), words);
         self.count(disc, room, &answer);
         matches!(answer.refusal, 0 | 6).then_some(answer)
     }
@@ -181,6 +188,16 @@ impl Reads {
             self.codes.class_if(class, answer.words.iter().any(|word| word >> 16 == code));
         }
     }
+}
+
+/// The areas that the library hands back, with their tracks and the Rust's.
+fn handed<'a>(library: &DiscAnswer, lent: &'a Lent, rust: &'a Answer) -> [Handed<'a>; 2] {
+    let areas = library.areas();
+    [0, 1].map(|slot| Handed {
+        area: areas[slot],
+        tracks: &lent.tracks[FIRST_TRACKS[slot]..],
+        rust: &rust.tracks[slot],
+    })
 }
 
 /// Counts, when all discs are read, whether at least half of them are accepted.

@@ -18,6 +18,7 @@ use crate::tables::Tables;
 use crate::tally::Kind;
 use crate::texts::Texts as LoneTexts;
 use crate::threads::{in_threads, sums};
+use crate::tracks::Tracks;
 use generate::Rng;
 use generate::disc::Disc;
 use generate::layout::{FOREIGN, layout};
@@ -77,6 +78,10 @@ impl Run {
             reads: Reads {
                 read: Kind::new("as images", &[&refusals[..], &discs].concat()),
                 codes: Kind::new("their codes", &[]),
+                tracks: Tracks {
+                    stored: Kind::new("their stored times", &["discs with tracks"]),
+                    capping: Kind::new("their capping", &["cut"]),
+                },
             },
             dumps: Dumps { kind: Kind::new("their dumps", &["accepted", "refusal 6", "lines"]) },
             texts: Texts {
@@ -85,7 +90,14 @@ impl Run {
                 track: Kind::new("their track texts", &TEXTS),
             },
             records: Lies { kind: Kind::new("by any records", &RECORDS) },
-            tables: Tables { read: Kind::new("as lone tables", &lone), ..Tables::new() },
+            tables: Tables {
+                read: Kind::new("as lone tables", &lone),
+                tracks: Tracks {
+                    stored: Kind::new("lone stored times", &["tables with tracks"]),
+                    capping: Kind::new("lone capping", &["cut"]),
+                },
+                ..Tables::new()
+            },
             lone_texts: LoneTexts {
                 area: Kind::new("lone area texts", &TEXTS),
                 track: Kind::new("lone track texts", &TEXTS),
@@ -130,7 +142,7 @@ impl Run {
             disc.form = layout(format).unwrap_or(disc.form);
             let rust = answer::read(&disc);
             self.dumps.case(case, &disc, rust.as_ref());
-            let rust = rust.map(|(rust, _)| Answer::of(&disc, rust));
+            let rust = rust.map(|rust| Answer::of(&disc, rust));
             let read = self.reads.case_in(rng, case, (&disc, lent), rust, &mut self.memory);
             if let Some(answer) = read {
                 self.texts.cases(rng, &answer, &self.memory.ours);
@@ -170,9 +182,11 @@ impl Run {
     fn kinds(self) -> Vec<Kind> {
         let LoneTexts { area, track, lies } = self.lone_texts;
         let Texts { disc, area: disc_area, track: disc_track } = self.texts;
-        let images = [self.formats.kind, self.reads.read, self.dumps.kind];
+        let Tracks { stored, capping } = self.reads.tracks;
+        let Tracks { stored: lone_stored, capping: lone_capping } = self.tables.tracks;
+        let images = [self.formats.kind, self.reads.read, stored, capping, self.dumps.kind];
         let texts = [disc, disc_area, disc_track, self.records.kind];
-        let tables = [self.tables.read, area, track, lies];
+        let tables = [self.tables.read, lone_stored, lone_capping, area, track, lies];
         let strings = [self.strings.decode, self.lent, self.decoded];
         images.into_iter().chain(texts).chain(tables).chain(strings).collect()
     }
