@@ -97,12 +97,12 @@ mod tests {
 
     #[test]
     fn a_missing_a_needless_and_a_second_warning_are_found() {
-        let cut = track([20, 41], 1500, 3000);
-        assert!(!holds(&cut, &[]));
-        assert!(!holds(&cut, &[WARNING, WARNING]));
+        let capped = track([20, 41], 1500, 3000);
+        assert!(!holds(&capped, &[]));
+        assert!(!holds(&capped, &[WARNING, WARNING]));
         assert!(!holds(&track([20, 40], 1500, 3000), &[WARNING]));
         for other in [WARNING + 1, WARNING - 256, WARNING + 65_536] {
-            assert!(!holds(&cut, &[other]), "{other}");
+            assert!(!holds(&capped, &[other]), "{other}");
         }
     }
 }

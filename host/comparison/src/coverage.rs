@@ -34,7 +34,7 @@ const DISCS: [(&str, &str, &str); 34] = [
     ("discs with `TWOCHTOC` in slot 2", "discs, slots", "TWOCHTOC in 2"),
     ("discs with tracks", OF_DISCS, "discs with tracks"),
     ("tracks of discs, each with its stored times", OF_DISCS, ""),
-    ("tracks of discs that are capped", OF_DISCS, "cut"),
+    ("tracks of discs that are capped", OF_DISCS, "capped"),
     ("disc texts", "disc texts", ""),
     ("area texts", "disc area texts", ""),
     ("track texts", "disc track texts", ""),
@@ -44,7 +44,7 @@ const DISCS: [(&str, &str, &str); 34] = [
     ("lone tables", "read_table", ""),
     ("lone tables with tracks", OF_TABLES, "tables with tracks"),
     ("tracks of lone tables, each with its stored times", OF_TABLES, ""),
-    ("tracks of lone tables that are capped", OF_TABLES, "cut"),
+    ("tracks of lone tables that are capped", OF_TABLES, "capped"),
 ];
 
 /// The lines of the table, for a document.

@@ -15,13 +15,13 @@ const TIMES: [&str; 9] = [
     "start, frames above 74",
     "duration, seconds above 59",
     "duration, frames above 74",
-    "cut",
-    "start cut",
-    "duration cut",
+    "capped",
+    "start capped",
+    "duration capped",
     "sum is the play time",
     "sum one above",
 ];
-const SLOTS: [&str; 4] = ["slot 1", "slot 2", "cut in slot 1", "cut in slot 2"];
+const SLOTS: [&str; 4] = ["slot 1", "slot 2", "capped in slot 1", "capped in slot 2"];
 
 /// An area that a reading hands back, its tracks, and the Rust's.
 pub struct Handed<'a> {
@@ -74,12 +74,8 @@ impl Tracks {
         for (at, track) in tracks.iter().take(area.track_count.into()).enumerate() {
             let question = (question, area.playtime, track);
             self.stored.case(&question, 0, Some(stored(track)), rust.get(at).map(stored));
-            self.capping.case(
-                &question,
-                0,
-                handed_back(&area, track, words),
-                by_rule(&area, track),
-            );
+            let (library, rule) = (handed_back(&area, track, words), by_rule(&area, track));
+            self.capping.case(&question, 0, library, rule);
             for kind in [&mut self.stored, &mut self.capping] {
                 count(kind, &area, track);
             }
@@ -99,16 +95,16 @@ fn count(kind: &mut Kind, area: &Area, track: &Track) {
     kind.class_if("duration, seconds above 59", duration.seconds > 59);
     kind.class_if("duration, frames above 74", duration.frames > 74);
     let [start, duration, playtime] = [start, duration, area.playtime].map(frames);
-    let cut = start + duration > playtime;
-    kind.class_if("cut", cut);
-    kind.class_if("start cut", cut && track.times.start_frame.0 < start);
-    kind.class_if("duration cut", cut && track.times.duration_frames.0 < duration);
+    let capped = start + duration > playtime;
+    kind.class_if("capped", capped);
+    kind.class_if("start capped", capped && track.times.start_frame.0 < start);
+    kind.class_if("duration capped", capped && track.times.duration_frames.0 < duration);
     kind.class_if("sum is the play time", start + duration == playtime);
     kind.class_if("sum one above", start + duration == playtime + 1);
     kind.class_if("slot 1", area.origin.slot == 1);
     kind.class_if("slot 2", area.origin.slot == 2);
-    kind.class_if("cut in slot 1", cut && area.origin.slot == 1);
-    kind.class_if("cut in slot 2", cut && area.origin.slot == 2);
+    kind.class_if("capped in slot 1", capped && area.origin.slot == 1);
+    kind.class_if("capped in slot 2", capped && area.origin.slot == 2);
 }
 
 #[test]

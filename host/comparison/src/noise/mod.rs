@@ -80,7 +80,7 @@ impl Run {
                 codes: Kind::new("their codes", &[]),
                 tracks: Tracks {
                     stored: Kind::new("their stored times", &["discs with tracks"]),
-                    capping: Kind::new("their capping", &["cut"]),
+                    capping: Kind::new("their capping", &["capped"]),
                 },
             },
             dumps: Dumps { kind: Kind::new("their dumps", &["accepted", "refusal 6", "lines"]) },
@@ -94,7 +94,7 @@ impl Run {
                 read: Kind::new("as lone tables", &lone),
                 tracks: Tracks {
                     stored: Kind::new("lone stored times", &["tables with tracks"]),
-                    capping: Kind::new("lone capping", &["cut"]),
+                    capping: Kind::new("lone capping", &["capped"]),
                 },
                 ..Tables::new()
             },
