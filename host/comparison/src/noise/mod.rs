@@ -78,10 +78,7 @@ impl Run {
             reads: Reads {
                 read: Kind::new("as images", &[&refusals[..], &discs].concat()),
                 codes: Kind::new("their codes", &[]),
-                tracks: Tracks {
-                    stored: Kind::new("their stored times", &["discs with tracks"]),
-                    capping: Kind::new("their capping", &["capped"]),
-                },
+                tracks: tracks("their stored times", "their capping", "discs with tracks"),
             },
             dumps: Dumps { kind: Kind::new("their dumps", &["accepted", "refusal 6", "lines"]) },
             texts: Texts {
@@ -92,10 +89,7 @@ impl Run {
             records: Lies { kind: Kind::new("by any records", &RECORDS) },
             tables: Tables {
                 read: Kind::new("as lone tables", &lone),
-                tracks: Tracks {
-                    stored: Kind::new("lone stored times", &["tables with tracks"]),
-                    capping: Kind::new("lone capping", &["capped"]),
-                },
+                tracks: tracks("lone stored times", "lone capping", "tables with tracks"),
                 ..Tables::new()
             },
             lone_texts: LoneTexts {
@@ -190,4 +184,9 @@ impl Run {
         let strings = [self.strings.decode, self.lent, self.decoded];
         images.into_iter().chain(texts).chain(tables).chain(strings).collect()
     }
+}
+
+/// Tracks by the names of their kinds, and the class of what hands some back.
+fn tracks(stored: &'static str, capping: &'static str, some: &'static str) -> Tracks {
+    Tracks { stored: Kind::new(stored, &[some]), capping: Kind::new(capping, &["capped"]) }
 }
