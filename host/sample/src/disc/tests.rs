@@ -38,3 +38,17 @@ fn every_class_has_a_disc() {
         answers.iter().flat_map(|lines| numbers(lines, "text ")).map(|text| text[1]).collect();
     assert_eq!(refused, BTreeSet::from([0, 9]));
 }
+
+#[test]
+fn stored_times_of_every_class_have_a_track() {
+    let answers: Vec<_> = all().iter().map(lines).collect();
+    let tracks: Vec<_> = answers.iter().flat_map(|lines| numbers(lines, "track ")).collect();
+    let frames = |time: &[u64]| 75 * (60 * time[0] + time[1]) + time[2];
+    let as_stored = |track: &[u64]| [frames(&track[5..8]), frames(&track[8..11])] == track[3..5];
+    assert!(tracks.iter().any(|track| as_stored(track)));
+    assert!(tracks.iter().any(|track| !as_stored(track)));
+    for time in [5..8, 8..11] {
+        assert!(tracks.iter().any(|track| track[time.clone()][1] > 59));
+        assert!(tracks.iter().any(|track| track[time.clone()][2] > 74));
+    }
+}
