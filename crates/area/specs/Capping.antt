@@ -17,15 +17,15 @@ use Rattle.area.specs.declared.track.Track.{Track}
 use Rattle.area.specs.declared.warning.Warning.{Warning}
 
 -- the frame numbers of a track's stored times
-unfoldable pub storedStart : Track → Frame
-storedStart t = frameNumber (t .times .«stored_start»)
+unfoldable pub storedStartFrame : Track → Frame
+storedStartFrame t = frameNumber (t .times .«stored_start»)
 
-unfoldable pub storedDuration : Track → Frame
-storedDuration t = frameNumber (t .times .«stored_duration»)
+unfoldable pub storedDurationFrame : Track → Frame
+storedDurationFrame t = frameNumber (t .times .«stored_duration»)
 
 -- "the stored sum exceeds it": the play time
 abbrev pub SumExceeds : Timecode → Track → Type 0
-SumExceeds playtime t = frameNumber playtime .0 < storedStart t .0 + storedDuration t .0
+SumExceeds playtime t = frameNumber playtime .0 < storedStartFrame t .0 + storedDurationFrame t .0
 
 -- warning 14 of the track of a number
 unfoldable pub pastPlaytime : ℕ → ℕ → Warning
@@ -40,8 +40,8 @@ pub record Stands {W : Type 0} (w : W) (list : List W) (place : ℕ) : Type 0 wh
 -- reading has its warnings: as they are, or as words.
 pub record Capping {W : Type 0} (written : Warning → W) (warnings : List W) (slot : ℕ) (playtime : Timecode) (t : Track) : Type 0 where
   -- "start is capped at it, duration at what remains" (01, "Area")
-  pub start : t .times .«start_frame» ≡ capOf (storedStart t) (storedDuration t) (frameNumber playtime) .«start_frame»
-  pub duration : t .times .«duration_frames» ≡ capOf (storedStart t) (storedDuration t) (frameNumber playtime) .«duration_frames»
+  pub start : t .times .«start_frame» ≡ capOf (storedStartFrame t) (storedDurationFrame t) (frameNumber playtime) .«start_frame»
+  pub duration : t .times .«duration_frames» ≡ capOf (storedStartFrame t) (storedDurationFrame t) (frameNumber playtime) .«duration_frames»
   -- "start plus duration is at most the play time,"
   pub within : t .times .«start_frame» .0 + t .times .«duration_frames» .0 ≤ frameNumber playtime .0
   -- "and warning 14 stands exactly when the stored sum exceeds it.": then, only then, and at one place

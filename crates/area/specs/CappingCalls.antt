@@ -31,14 +31,14 @@ TableSaid c =
     (c .answer ≡ loneAnswer (loneIn c))
     × ((now (c .tracks .exit) ≡ loneTracks (loneIn c) (now (c .tracks .entry))) × (now (c .words .exit) ≡ loneWords (loneIn c) (now (c .words .entry))))
 
-abbrev pub CallCapped : TableCall → Type 0
-CallCapped c = LoneCapped (c .answer) (now (c .tracks .exit)) (now (c .words .exit))
+abbrev pub TableCapped : TableCall → Type 0
+TableCapped c = LoneCapped (c .answer) (now (c .tracks .exit)) (now (c .words .exit))
 
-said-capped : (c : TableCall) → TableSaid c → CallCapped c
+said-capped : (c : TableCall) → TableSaid c → TableCapped c
 said-capped c e =
     rw (e .0, e .1 .0, e .1 .1) (lone-capped (now (c .table .entry)) (now (c .tracks .entry)) (now (c .words .entry)))
 
--- what a contract says of a call, if it says the equations, says that every track that is handed back is capped
+-- from a contract with these equations: every track that a call hands back keeps to the rule
 pub table-capped : {M : Type 1} (𝓤 : URA M) (clause : TableCall → SProp 𝓤) → ((c : TableCall) → ent 𝓤 (clause c) (fact 𝓤 (TableSaid c)))
-    → (c : TableCall) → ent 𝓤 (clause c) (fact 𝓤 (CallCapped c))
-table-capped 𝓤 clause says c = via 𝓤 (fact 𝓤 (TableSaid c)) (says c) (fact-mono 𝓤 (TableSaid c) (CallCapped c) (said-capped c))
+    → (c : TableCall) → ent 𝓤 (clause c) (fact 𝓤 (TableCapped c))
+table-capped 𝓤 clause says c = via 𝓤 (fact 𝓤 (TableSaid c)) (says c) (fact-mono 𝓤 (TableSaid c) (TableCapped c) (said-capped c))

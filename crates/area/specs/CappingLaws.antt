@@ -1,5 +1,5 @@
--- Every track that a table yields keeps to the capping rule. Of its own warnings 14 is the first or none; among those of its table, and as a word, it
--- has its places as there (`StandsLaws`). Assumes nothing.
+-- Every track that a table yields keeps to the capping rule. Its 14 is the first of its own warnings, or none; among those of its table, and among their
+-- words, it stands at the same places, moved by a number (`StandsLaws`). Assumes nothing.
 use Prim.Native.Nat.{ℕ, _+_, _*_, _≤_, _<_, min}
 use native.Mathlib.Decide.{ℕ-discrete}
 use native.Mathlib.Omega.{arith}
@@ -13,15 +13,15 @@ use Rattle.sectors.specs.Fill.{part, fill}
 use Rattle.sectors.specs.FillLaws.{part-filled}
 use Rattle.area.specs.Area.{recordOf, addressed}
 use Rattle.area.specs.Cap.{exceeds}
-use Rattle.area.specs.Capping.{storedStart, storedDuration, pastPlaytime, Stands, Capping, LoneCapped}
+use Rattle.area.specs.Capping.{storedStartFrame, storedDurationFrame, pastPlaytime, Stands, Capping, LoneCapped}
 use Rattle.area.specs.Chain.{chainOf}
 use Rattle.area.specs.Lent.{whenTrue}
 use Rattle.area.specs.Limits.{maxTracks}
 use Rattle.area.specs.Lone.{isOddTable, isShort, loneSlot, loneSectors, Lone, reads, loneOf, loneAnswer, loneTracks, loneWords}
 use Rattle.area.specs.LoneLaws.{lone-odd, lone-short, lone-reads, enough-records, enough-words}
 use Rattle.area.specs.Skip.{skipOf}
-use Rattle.area.specs.StandsLaws.{Moved, moved-then, moved-front, moved-behind, moved-map, moved-flat}
-use Rattle.area.specs.Table.{Table, withAddress, areaOf, ofSlot, dsd64, ofTrack, frequencyWarnings, trackWarnings, readsOf, tracksOf, tracksWarnings, yieldOf, tableOf, areaGiven, tracksGiven, warningsOf, yields}
+use Rattle.area.specs.StandsLaws.{Shifted, shifted-then, shifted-front, shifted-behind, shifted-map, shifted-flat}
+use Rattle.area.specs.Table.{Table, areaOf, ofSlot, dsd64, ofTrack, frequencyWarnings, trackWarnings, readsOf, tracksOf, tracksWarnings, yieldOf, tableOf, areaGiven, tracksGiven, warningsOf, yields}
 use Rattle.area.specs.TableLaws.{by-skip, area-of, address-tracks, address-warnings, address-playtime, tracks-count, tracks-most, warnings-most, head-skips, area-yields, addressed-track-count, addressed-playtime}
 use Rattle.area.specs.Tabulate.{tabulate}
 use Rattle.area.specs.TabulateLaws.{map-tabulate}
@@ -42,11 +42,11 @@ pub past-playtime : (slot number : ℕ) → pastPlaytime slot number ≡ record 
 unfolding pastPlaytime
 past-playtime slot number = refl
 
--- What is so by one list of warnings is so by another in which the track's 14 stands as there.
+-- What is so by one list of warnings is so by another, where the track's 14 stands at the same places, moved by a number.
 module _ {A B : Type 0} {f : Warning → A} {vs : List A} {g : Warning → B} {ws : List B} (slot : ℕ) (playtime : Timecode) (t : Track) where
-  pub capping-moved : Moved (f (pastPlaytime slot (t .number))) vs (g (pastPlaytime slot (t .number))) ws
+  pub capping-shifted : Shifted (f (pastPlaytime slot (t .number))) vs (g (pastPlaytime slot (t .number))) ws
       → Capping f vs slot playtime t → Capping g ws slot playtime t
-  capping-moved m c = record {
+  capping-shifted m c = record {
     start = c .start;
     duration = c .duration;
     within = c .within;
@@ -79,22 +79,22 @@ module _ (table : List ℕ) (area : Area) (chain : Chain) (slot : ℕ) where
   abbrev fourteen : ℕ → Warning
   fourteen i = pastPlaytime slot (read i .track .number)
 
-  -- its stored times exceed the play time
-  abbrev Over : ℕ → Type 0
-  Over i = frameNumber (area .playtime) .0 < storedStart (read i .track) .0 + storedDuration (read i .track) .0
+  -- what `exceeds` tests, in its own numbers
+  abbrev Tested : ℕ → Type 0
+  Tested i = frameNumber (area .playtime) .0 < storedStartFrame (read i .track) .0 + storedDurationFrame (read i .track) .0
 
   -- by its own 14
   capping-own : (i : ℕ) → Capping (λ w. w) (whenTrue (read i .«past_playtime») (fourteen i)) slot (area .playtime) (read i .track)
-  unfolding trackOf timesOf cappedTimes storedStart storedDuration exceeds
+  unfolding trackOf timesOf cappedTimes storedStartFrame storedDurationFrame exceeds
   capping-own i = record {
     start = refl;
     duration = refl;
     within = omega (arith, track-within table area chain i);
     comes = λ e.
-        let over : Over i = omega (arith, e) in
+        let over : Tested i = omega (arith, e) in
         (0, when-stands (fourteen i) (read i .«past_playtime») (track-warned table area chain i ∙ lt-ltb _ _ over));
     only = λ place s.
-        let over : Over i = ltb-true _ _ (sym (track-warned table area chain i) ∙ stands-when (fourteen i) (read i .«past_playtime») place s .0) in
+        let over : Tested i = ltb-true _ _ (sym (track-warned table area chain i) ∙ stands-when (fourteen i) (read i .«past_playtime») place s .0) in
         omega (arith, over);
     once = λ place place′ s s′.
         let p = stands-when (fourteen i) (read i .«past_playtime») place s .1 in
@@ -102,9 +102,9 @@ module _ (table : List ℕ) (area : Area) (chain : Chain) (slot : ℕ) where
   }
 
   -- by all warnings of the track
-  moved-track : (i : ℕ) → Moved (fourteen i) (whenTrue (read i .«past_playtime») (fourteen i)) (fourteen i) (trackWarnings slot (read i))
+  shifted-track : (i : ℕ) → Shifted (fourteen i) (whenTrue (read i .«past_playtime») (fourteen i)) (fourteen i) (trackWarnings slot (read i))
   unfolding trackWarnings ofTrack pastPlaytime
-  moved-track i = moved-then (moved-front (fourteen i) past outside not-outside) (moved-front (fourteen i) (past ++ outside) text not-text)
+  shifted-track i = shifted-then (shifted-front (fourteen i) past outside not-outside) (shifted-front (fourteen i) (past ++ outside) text not-text)
     where
       code : Warning → ℕ
       code w = w .code
@@ -129,21 +129,21 @@ module _ (table : List ℕ) (area : Area) (chain : Chain) (slot : ℕ) where
 
   -- by those of so many tracks, and of their table
   module _ (n i : ℕ) (below : i < n) where
-    moved-tracks : Moved (fourteen i) (trackWarnings slot (read i)) (fourteen i) (flatMap (trackWarnings slot) (tabulate n read))
+    shifted-tracks : Shifted (fourteen i) (trackWarnings slot (read i)) (fourteen i) (flatMap (trackWarnings slot) (tabulate n read))
     unfolding pastPlaytime
-    moved-tracks = moved-flat (trackWarnings slot) (fourteen i) n i read below (λ k m.
+    shifted-tracks = shifted-flat (trackWarnings slot) (fourteen i) n i read below (λ k m.
         let e = track-warnings-of slot (read k) (fourteen i) m .1 in omega (arith, e, track-number table area chain i, track-number table area chain k))
 
-    moved-table : Moved (fourteen i) (flatMap (trackWarnings slot) (tabulate n read)) (fourteen i)
+    shifted-table : Shifted (fourteen i) (flatMap (trackWarnings slot) (tabulate n read)) (fourteen i)
         (frequencyWarnings slot area ++ flatMap (trackWarnings slot) (tabulate n read))
     unfolding frequencyWarnings ofSlot pastPlaytime
-    moved-table = moved-behind (fourteen i) (frequencyWarnings slot area) (flatMap (trackWarnings slot) (tabulate n read)) (λ m.
+    shifted-table = shifted-behind (fourteen i) (frequencyWarnings slot area) (flatMap (trackWarnings slot) (tabulate n read)) (λ m.
         let e = ap (λ (w : Warning). w .code) (in-when (fourteen i) (not (eqb (area .«sample_frequency_code») dsd64)) (ofSlot sampleFrequencyUnknown slot) m) in
         absurd (omega (arith, e)))
 
     capping-read : Capping (λ w. w) (frequencyWarnings slot area ++ flatMap (trackWarnings slot) (tabulate n read)) slot (area .playtime) (read i .track)
     capping-read =
-        capping-moved slot (area .playtime) (read i .track) (moved-then (moved-track i) (moved-then moved-tracks moved-table)) (capping-own i)
+        capping-shifted slot (area .playtime) (read i .track) (shifted-then (shifted-track i) (shifted-then shifted-tracks shifted-table)) (capping-own i)
 
 -- ---- of every track that a table yields
 
@@ -174,16 +174,14 @@ module _ (table : List ℕ) (slot sectors : ℕ) where
 
   -- .. at any address
   module _ (lsn : ℕ) (t : Track) (m : List·Memᴰ t (tracksGiven (areaOf table slot lsn sectors))) where
-    abbrev there : areaOf table slot lsn sectors ≡ withAddress lsn (tableOf table slot sectors)
-    there = area-of table slot lsn sectors
+    abbrev bare : Table
+    bare = tableOf table slot sectors
 
-    abbrev m′ : List·Memᴰ t (tracksGiven (tableOf table slot sectors))
-    m′ = subst (List·Memᴰ t) (ap tracksGiven there ∙ address-tracks lsn (tableOf table slot sectors)) m
+    abbrev m′ : List·Memᴰ t (tracksGiven bare)
+    m′ = subst (List·Memᴰ t) (ap tracksGiven (area-of table slot lsn sectors) ∙ address-tracks lsn bare) m
 
     pub area-capping : Capping (λ w. w) (warningsOf (areaOf table slot lsn sectors)) slot (areaGiven (areaOf table slot lsn sectors) .playtime) t
-    area-capping =
-        let own = tableOf table slot sectors in
-        rw (there, address-warnings lsn own, address-playtime lsn own) (table-capping t m′)
+    area-capping = rw (area-of table slot lsn sectors, address-warnings lsn bare, address-playtime lsn bare) (table-capping t m′)
 
     pub area-number : t .number ≤ maxTracks
     area-number = number-most t m′
@@ -211,14 +209,14 @@ pub capping-words : (warnings : List Warning) (slot : ℕ) (playtime : Timecode)
     → Capping (λ w. w) warnings slot playtime t → Capping wordOf (map wordOf warnings) slot playtime t
 unfolding pastPlaytime
 capping-words warnings slot playtime t few few′ bytes =
-    capping-moved slot playtime t (moved-map wordOf (pastPlaytime slot (t .number)) warnings (λ w m e.
+    capping-shifted slot playtime t (shifted-map wordOf (pastPlaytime slot (t .number)) warnings (λ w m e.
     word-own w (pastPlaytime slot (t .number)) (bytes w m .0) (bytes w m .1) few few′ e))
 
 -- ---- of every track that a reading of a lone table hands back
 
 module _ (table : List ℕ) (tracks : List Track) (words : List ℕ) where
-  abbrev Holds : Lone → Type 0
-  Holds lone = LoneCapped (loneAnswer lone) (loneTracks lone tracks) (loneWords lone words)
+  abbrev LoneHolds : Lone → Type 0
+  LoneHolds lone = LoneCapped (loneAnswer lone) (loneTracks lone tracks) (loneWords lone words)
 
   module _ (room : isShort (length tracks) (length words) ≡ false) where
     -- the table, as it is without an address
@@ -240,7 +238,7 @@ module _ (table : List ℕ) (tracks : List Track) (words : List ℕ) where
         let few = warnings-most table loneSlot (loneSectors table) in let enough = enough-words (length tracks) (length words) room in let n = length-map all wordOf in
         ap (λ (n : ℕ). part 0 n (fill 0 (map wordOf all) words)) (sym n) ∙ part-filled 0 (map wordOf all) words (omega arith)
 
-    kept-capped : Holds (reads (yields (addressed 0 (areaGiven own)) (tracksGiven own) all))
+    kept-capped : LoneHolds (reads (yields (addressed 0 (areaGiven own)) (tracksGiven own) all))
     unfolding loneAnswer loneTracks loneWords warningsOf
     kept-capped accepted t m =
         let m′ = subst (List·Memᴰ t) tracks-back m in let number = number-most table loneSlot (loneSectors table) t m′ in
@@ -249,20 +247,20 @@ module _ (table : List ℕ) (tracks : List Track) (words : List ℕ) where
         let of = table-warnings-of table loneSlot (loneSectors table) w h in let slot = of .0 in let track = of .1 in (omega arith, omega arith))
         (table-capping table loneSlot (loneSectors table) t m′))
 
-    read-capped : Dec (skipOf table ≡ 0) → Holds (reads (areaOf table loneSlot 0 (loneSectors table)))
+    read-capped : Dec (skipOf table ≡ 0) → LoneHolds (reads (areaOf table loneSlot 0 (loneSectors table)))
     unfolding loneAnswer
-    read-capped (yes kept) = subst (λ (x : Table). Holds (reads x)) (sym (area-yields table loneSlot 0 (loneSectors table) kept)) kept-capped
+    read-capped (yes kept) = subst (λ (x : Table). LoneHolds (reads x)) (sym (area-yields table loneSlot 0 (loneSectors table) kept)) kept-capped
     read-capped (no skipped) =
-        subst (λ (x : Table). Holds (reads x)) (sym (head-skips table loneSlot 0 (loneSectors table) skipped)) (λ e. absurd (omega (arith, e)))
+        subst (λ (x : Table). LoneHolds (reads x)) (sym (head-skips table loneSlot 0 (loneSectors table) skipped)) (λ e. absurd (omega (arith, e)))
 
-  pub lone-capped : Holds (loneOf table (length tracks) (length words))
+  pub lone-capped : LoneHolds (loneOf table (length tracks) (length words))
   unfolding loneAnswer
   lone-capped = by-size (isOddTable (length table)) refl
     where
-      by-room : isOddTable (length table) ≡ false → (z : Bool) → isShort (length tracks) (length words) ≡ z → Holds (loneOf table (length tracks) (length words))
-      by-room sized true z = subst Holds (sym (lone-short table (length tracks) (length words) sized z)) (λ e. absurd (omega (arith, e)))
-      by-room sized false z = subst Holds (sym (lone-reads table (length tracks) (length words) sized z)) (read-capped z (ℕ-discrete (skipOf table) 0))
+      by-room : isOddTable (length table) ≡ false → (z : Bool) → isShort (length tracks) (length words) ≡ z → LoneHolds (loneOf table (length tracks) (length words))
+      by-room sized true z = subst LoneHolds (sym (lone-short table (length tracks) (length words) sized z)) (λ e. absurd (omega (arith, e)))
+      by-room sized false z = subst LoneHolds (sym (lone-reads table (length tracks) (length words) sized z)) (read-capped z (ℕ-discrete (skipOf table) 0))
 
-      by-size : (z : Bool) → isOddTable (length table) ≡ z → Holds (loneOf table (length tracks) (length words))
-      by-size true z = subst Holds (sym (lone-odd table (length tracks) (length words) z)) (λ e. absurd (omega (arith, e)))
+      by-size : (z : Bool) → isOddTable (length table) ≡ z → LoneHolds (loneOf table (length tracks) (length words))
+      by-size true z = subst LoneHolds (sym (lone-odd table (length tracks) (length words) z)) (λ e. absurd (omega (arith, e)))
       by-size false z = by-room z (isShort (length tracks) (length words)) refl

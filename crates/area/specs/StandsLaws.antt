@@ -1,4 +1,5 @@
--- Laws of the places where an entry of a list stands: it keeps them, moved by a number, in a longer list that has it nowhere else. Assumes nothing.
+-- Laws of the places where an entry of a list stands: it keeps them, moved by a number, in a longer list that has it nowhere else, and where every
+-- entry is written in its own way. Assumes nothing.
 use Prim.Native.Nat.{ℕ, zero, suc, _+_, _-_, _<_}
 use native.Mathlib.Omega.{arith}
 use mathlib.Core.Bool.{Bool, true, false}
@@ -23,13 +24,13 @@ pub stands-member : {W : Type 0} (w : W) (ws : List W) (i : ℕ) → Stands w ws
 stands-member w ws i s = subst (λ (x : _). List·Memᴰ x ws) (s .there) (at-member ws i w (s .inside))
 
 -- v stands in one list as w stands in another, at places moved by a number
-pub record Moved {A B : Type 0} (v : A) (vs : List A) (w : B) (ws : List B) : Type 0 where
+pub record Shifted {A B : Type 0} (v : A) (vs : List A) (w : B) (ws : List B) : Type 0 where
   pub by : ℕ
   pub forth : (i : ℕ) → Stands v vs i → Stands w ws (by + i)
   pub back : (j : ℕ) → Stands w ws j → (i : ℕ) × ((j ≡ by + i) × Stands v vs i)
 
-pub moved-then : {A B C : Type 0} {u : A} {us : List A} {v : B} {vs : List B} {w : C} {ws : List C} → Moved u us v vs → Moved v vs w ws → Moved u us w ws
-moved-then {w = w} {ws = ws} a b = record {
+pub shifted-then : {A B C : Type 0} {u : A} {us : List A} {v : B} {vs : List B} {w : C} {ws : List C} → Shifted u us v vs → Shifted v vs w ws → Shifted u us w ws
+shifted-then {w = w} {ws = ws} a b = record {
   by = b .by + a .by;
   forth = λ i s. subst (Stands w ws) (omega arith) (b .forth (a .by + i) (a .forth i s));
   back = λ j s. let q = b .back j s in let p = a .back (q .0) (q .1 .1) in let e = q .1 .0 in let d = p .1 .0 in (p .0, (omega arith, p .1 .1));
@@ -63,23 +64,23 @@ module _ {W : Type 0} (w : W) (xs ys : List W) where
             ),
           )
 
-  pub moved-front : (List·Memᴰ w ys → ⊥) → Moved w xs w (xs ++ ys)
-  moved-front none = record { by = 0; forth = λ i s. subst (Stands w (xs ++ ys)) (omega arith) (in-front i s); back = λ j s. go j (either j s) }
+  pub shifted-front : (List·Memᴰ w ys → ⊥) → Shifted w xs w (xs ++ ys)
+  shifted-front none = record { by = 0; forth = λ i s. subst (Stands w (xs ++ ys)) (omega arith) (in-front i s); back = λ j s. go j (either j s) }
     where
       go : (j : ℕ) → Stands w xs j ⊎ ((i : ℕ) × ((j ≡ length xs + i) × Stands w ys i)) → (i : ℕ) × ((j ≡ 0 + i) × Stands w xs i)
       go j (inl s) = (j, (omega arith, s))
       go j (inr s) = absurd (none (stands-member w ys (s .0) (s .1 .1)))
 
-  pub moved-behind : (List·Memᴰ w xs → ⊥) → Moved w ys w (xs ++ ys)
-  moved-behind none = record { by = length xs; forth = in-rest; back = λ j s. go j (either j s) }
+  pub shifted-behind : (List·Memᴰ w xs → ⊥) → Shifted w ys w (xs ++ ys)
+  shifted-behind none = record { by = length xs; forth = in-rest; back = λ j s. go j (either j s) }
     where
       go : (j : ℕ) → Stands w xs j ⊎ ((i : ℕ) × ((j ≡ length xs + i) × Stands w ys i)) → (i : ℕ) × ((j ≡ length xs + i) × Stands w ys i)
       go j (inl s) = absurd (none (stands-member w xs j s))
       go j (inr s) = s
 
 -- where every entry is written in its own way
-pub moved-map : {A B : Type 0} (f : A → B) (v : A) (vs : List A) → ((x : A) → List·Memᴰ x vs → f x ≡ f v → x ≡ v) → Moved v vs (f v) (map f vs)
-moved-map f v vs own = record {
+pub shifted-map : {A B : Type 0} (f : A → B) (v : A) (vs : List A) → ((x : A) → List·Memᴰ x vs → f x ≡ f v → x ≡ v) → Shifted v vs (f v) (map f vs)
+shifted-map f v vs own = record {
   by = 0;
   forth = λ i s.
       subst (Stands (f v) (map f vs)) (omega arith) (record { inside = rw (length-map vs f) (s .inside); there = List·getD-map f vs i v ∙ ap f (s .there) });
@@ -89,14 +90,14 @@ moved-map f v vs own = record {
 }
 
 -- in a list of lists, of which one has it
-pub moved-flat : {A W : Type 0} (f : A → List W) (w : W) (n i : ℕ) (g : ℕ → A) → i < n → ((k : ℕ) → List·Memᴰ w (f (g k)) → k ≡ i)
-    → Moved w (f (g i)) w (flatMap f (tabulate n g))
+pub shifted-flat : {A W : Type 0} (f : A → List W) (w : W) (n i : ℕ) (g : ℕ → A) → i < n → ((k : ℕ) → List·Memᴰ w (f (g k)) → k ≡ i)
+    → Shifted w (f (g i)) w (flatMap f (tabulate n g))
 unfolding flatMap tabulate
-moved-flat f w zero i g below only = absurd (omega arith)
-moved-flat f w (suc n) zero g below only =
-    moved-front w (f (g 0)) (flatMap f (tabulate n (λ k. g (suc k)))) (λ m.
+shifted-flat f w zero i g below only = absurd (omega arith)
+shifted-flat f w (suc n) zero g below only =
+    shifted-front w (f (g 0)) (flatMap f (tabulate n (λ k. g (suc k)))) (λ m.
     let found = flat-member f (tabulate n (λ k. g (suc k))) m in let entry = tabulate-member n (λ k. g (suc k)) (found .1 .0) in
     let e = only (suc (entry .0)) (subst (λ (x : _). List·Memᴰ w (f x)) (entry .1 .1) (found .1 .1)) in absurd (omega arith))
-moved-flat f w (suc n) (suc i) g below only =
-    moved-then (moved-flat f w n i (λ k. g (suc k)) (omega arith) (λ k m. let e = only (suc k) m in omega arith))
-    (moved-behind w (f (g 0)) (flatMap f (tabulate n (λ k. g (suc k)))) (λ m. let e = only 0 m in absurd (omega arith)))
+shifted-flat f w (suc n) (suc i) g below only =
+    shifted-then (shifted-flat f w n i (λ k. g (suc k)) (omega arith) (λ k m. let e = only (suc k) m in omega arith))
+    (shifted-behind w (f (g 0)) (flatMap f (tabulate n (λ k. g (suc k)))) (λ m. let e = only 0 m in absurd (omega arith)))

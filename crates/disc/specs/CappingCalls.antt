@@ -11,7 +11,7 @@ use Rattle.disc.specs.CappingLaws.{disc-capped}
 said-capped : (c : Call) → Said c → TracksCapped (c .outcome)
 said-capped c e = subst TracksCapped (told c e) (disc-capped (c .format) (c .image) (c .memory))
 
--- what the contract says of a call with such arguments, and the call: every track that comes out is capped
+-- from a contract with these equations, of a call with such arguments: every track that comes out keeps to the rule
 pub call-capped : {M : Type 1} (𝓤 : URA M) {X : Type 0} (clause : X → SProp 𝓤) (call : X → Call)
     → ((x : X) → ent 𝓤 (clause x) (fact 𝓤 (Said (call x)))) → (x : X) → ent 𝓤 (clause x) (fact 𝓤 (TracksCapped (call x .outcome)))
 call-capped 𝓤 clause call says x =

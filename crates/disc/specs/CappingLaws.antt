@@ -1,6 +1,6 @@
 -- Every track that comes out of a reading keeps to the capping rule: its 14 stands among the warnings of the disc as among those of its table,
 -- since no other warning is of its slot, its number and code 14. Assumes nothing.
-use Prim.Native.Nat.{ℕ, _+_, _≤_}
+use Prim.Native.Nat.{ℕ, _≤_}
 use native.Mathlib.Omega.{arith}
 use mathlib.Core.Bool.{Bool, true, false}
 use mathlib.Core.List.{List, _++_, map, List·Memᴰ, List·Memᴰ·not-nil, List·Memᴰ·append-cases}
@@ -15,9 +15,9 @@ use Rattle.sectors.specs.Refusal.{foreignFormat}
 use Rattle.sectors.specs.Source.{Source, Sized, imageSource}
 use Rattle.sectors.specs.SourceLaws.{image-sized}
 use Rattle.area.specs.Capping.{pastPlaytime, Capping}
-use Rattle.area.specs.CappingLaws.{capping-moved, past-playtime, area-capping, area-number, capping-words}
+use Rattle.area.specs.CappingLaws.{capping-shifted, past-playtime, area-capping, area-number, capping-words}
 use Rattle.area.specs.Limits.{maxTracks}
-use Rattle.area.specs.StandsLaws.{Moved, moved-then, moved-front, moved-behind}
+use Rattle.area.specs.StandsLaws.{Shifted, shifted-then, shifted-front, shifted-behind}
 use Rattle.area.specs.Warning.{wordOf, trackPastPlaytime}
 use Rattle.area.specs.WarningLaws.{table-warnings-of}
 use Rattle.area.specs.declared.track.Track.{Track}
@@ -70,37 +70,37 @@ module _ (number : ℕ) where
           ⊎ List·Memᴰ (fourteen slot) (warningsIn (tableIn other (chosen source (pointerOf table other)))) → ⊥
       go (inl h) = not-copies slot other source table h
       go (inr h) =
-          let of = every-table (λ w. w .slot ≡ slotNumber other) other (λ bytes sectors w q. table-warnings-of bytes (slotNumber other) sectors w q .0)
-          (chosen source (pointerOf table other)) (fourteen slot) h in apart (sym of ∙ its-slot slot)
+          let its = every-table (λ w. w .slot ≡ slotNumber other) other (λ bytes sectors w q. table-warnings-of bytes (slotNumber other) sectors w q .0)
+          (chosen source (pointerOf table other)) (fourteen slot) h in apart (sym its ∙ its-slot slot)
 
   -- ---- so it stands among those of the disc as among those of its table
   module _ (source : Source) (table : List ℕ) where
-    moved-slot : (slot : Slot) → Moved (fourteen slot) (warningsIn (tableOf source table slot)) (fourteen slot) (slotWarnings source slot (pointerOf table slot))
+    shifted-slot : (slot : Slot) → Shifted (fourteen slot) (warningsIn (tableOf source table slot)) (fourteen slot) (slotWarnings source slot (pointerOf table slot))
     unfolding slotWarnings tableOf
-    moved-slot slot =
-        moved-behind (fourteen slot) (copyWarnings (slotNumber slot) (copiesOf source (pointerOf table slot))) (warningsIn (slotTable source slot (pointerOf table slot)))
+    shifted-slot slot =
+        shifted-behind (fourteen slot) (copyWarnings (slotNumber slot) (copiesOf source (pointerOf table slot))) (warningsIn (slotTable source slot (pointerOf table slot)))
         (not-copies slot slot source table)
 
     abbrev own : List Warning
     own = discWarnings (masterCopiesDiffer source table) table
 
-    abbrev of : Slot → List Warning
-    of slot = slotWarnings source slot (pointerOf table slot)
+    abbrev warned : Slot → List Warning
+    warned slot = slotWarnings source slot (pointerOf table slot)
 
-    not-before : List·Memᴰ (fourteen multichannel) (own ++ of twoChannel) → ⊥
+    not-before : List·Memᴰ (fourteen multichannel) (own ++ warned twoChannel) → ⊥
     unfolding slotNumber
     not-before m = go (List·Memᴰ·append-cases own m)
       where
-        go : List·Memᴰ (fourteen multichannel) own ⊎ List·Memᴰ (fourteen multichannel) (of twoChannel) → ⊥
+        go : List·Memᴰ (fourteen multichannel) own ⊎ List·Memᴰ (fourteen multichannel) (warned twoChannel) → ⊥
         go (inl h) = not-disc multichannel (masterCopiesDiffer source table) table h
         go (inr h) = not-slot multichannel twoChannel (omega arith) source table h
 
-    moved-disc : (slot : Slot) → Moved (fourteen slot) (of slot) (fourteen slot) (warningsOf source table)
+    shifted-disc : (slot : Slot) → Shifted (fourteen slot) (warned slot) (fourteen slot) (warningsOf source table)
     unfolding warningsOf slotNumber
-    moved-disc twoChannel =
-        moved-then (moved-behind (fourteen twoChannel) own (of twoChannel) (not-disc twoChannel (masterCopiesDiffer source table) table))
-        (moved-front (fourteen twoChannel) (own ++ of twoChannel) (of multichannel) (not-slot twoChannel multichannel (omega arith) source table))
-    moved-disc multichannel = moved-behind (fourteen multichannel) (own ++ of twoChannel) (of multichannel) not-before
+    shifted-disc twoChannel =
+        shifted-then (shifted-behind (fourteen twoChannel) own (warned twoChannel) (not-disc twoChannel (masterCopiesDiffer source table) table))
+        (shifted-front (fourteen twoChannel) (own ++ warned twoChannel) (warned multichannel) (not-slot twoChannel multichannel (omega arith) source table))
+    shifted-disc multichannel = shifted-behind (fourteen multichannel) (own ++ warned twoChannel) (warned multichannel) not-before
 
 -- ---- of every track of a slot, by the warnings of the disc
 
@@ -120,8 +120,8 @@ module _ (source : Source) (table : List ℕ) (slot : Slot) (t : Track) (m : Lis
   pub slot-capping : Capping (λ w. w) (warningsOf source table) (slotNumber slot) (areaIn (tableOf source table slot) .playtime) t
   unfolding tableOf slotTable
   slot-capping =
-      capping-moved (slotNumber slot) (areaIn (tableOf source table slot) .playtime) t
-      (moved-then (moved-slot (t .number) source table slot) (moved-disc (t .number) source table slot))
+      capping-shifted (slotNumber slot) (areaIn (tableOf source table slot) .playtime) t
+      (shifted-then (shifted-slot (t .number) source table slot) (shifted-disc (t .number) source table slot))
       (own-capping slot (chosen source (pointerOf table slot)) t m)
 
   -- .. and by their words

@@ -23,9 +23,14 @@ use Rattle.disc.specs.Disc.{ofDisc, masterCopiesDiffer, discWarnings, wa
 use Rattle.disc.specs.declared.copies.SlotCopies.{SlotCopies}
 use Rattle.disc.specs.declared.master.AreaPointer.{AreaPointer}
 
--- the codes of what a disc, or a slot's copies, are warned of: 1 to 7, and 17
+-- codes up to 7, and 17: what a disc, or a slot's copies, are warned of
 abbrev pub OwnCode : ℕ → Type 0
 OwnCode n = (n ≤ areaTocUnreadable) ⊎ (n ≡ masterTocCopiesDiffer)
+
+pub slot-number-few : (slot : Slot) → slotNumber slot ≤ 2
+unfolding slotNumber
+slot-number-few twoChannel = omega arith
+slot-number-few multichannel = omega arith
 
 module _ (P : Warning → Type 0) where
   -- it holds of every warning of a list
@@ -90,13 +95,10 @@ module _ (P : Warning → Type 0) where
   module _ (own : (slot code : ℕ) → slot ≤ 2 → OwnCode code → P (record { code = code; slot = slot; track = 0 }))
       (tables : (bytes : List ℕ) (slot : Slot) (sectors : ℕ) → Every (Area.warningsOf (Area.tableOf bytes (slotNumber slot) sectors))) where
     every-slot : (source : Source) (slot : Slot) (p : AreaPointer) → Every (slotWarnings source slot p)
-    unfolding slotWarnings slotTable slotNumber
-    every-slot source twoChannel p =
-        every-both _ _ (every-copies 1 (λ code. own 1 code (omega arith)) (copiesOf source p))
-        (every-table twoChannel (λ bytes. tables bytes twoChannel) (chosen source p))
-    every-slot source multichannel p =
-        every-both _ _ (every-copies 2 (λ code. own 2 code (omega arith)) (copiesOf source p))
-        (every-table multichannel (λ bytes. tables bytes multichannel) (chosen source p))
+    unfolding slotWarnings slotTable
+    every-slot source slot p =
+        every-both _ _ (every-copies (slotNumber slot) (λ code. own (slotNumber slot) code (slot-number-few slot)) (copiesOf source p))
+        (every-table slot (λ bytes. tables bytes slot) (chosen source p))
 
     every-warning : (source : Source) (table : List ℕ) → Every (warningsOf source table)
     unfolding warningsOf
@@ -121,11 +123,6 @@ never-malformed =
     table-not (w .code) (table-codes bytes (slotNumber slot) sectors w m))
 
 -- ---- slot and track are bytes
-pub slot-number-few : (slot : Slot) → slotNumber slot ≤ 2
-unfolding slotNumber
-slot-number-few twoChannel = omega arith
-slot-number-few multichannel = omega arith
-
 pub warning-bytes : (source : Source) (table : List ℕ) (w : Warning) → List·Memᴰ w (warningsOf source table) → (w .slot < 256) × (w .track < 256)
 warning-bytes =
     every-warning (λ w. (w .slot < 256) × (w .track < 256)) (λ slot code few is. (omega arith, omega arith)) (λ bytes slot sectors w m.
