@@ -17,8 +17,8 @@ use Rattle.area.specs.Capping.{storedStartFrame, storedDurationFrame, pa
 use Rattle.area.specs.Chain.{chainOf}
 use Rattle.area.specs.Lent.{whenTrue}
 use Rattle.area.specs.Limits.{maxTracks}
-use Rattle.area.specs.Lone.{isOddTable, isShort, loneSlot, loneSectors, Lone, reads, loneOf, loneAnswer, loneTracks, loneWords}
-use Rattle.area.specs.LoneLaws.{lone-odd, lone-short, lone-reads, enough-records, enough-words}
+use Rattle.area.specs.Lone.{isShort, loneSlot, loneSectors, Lone, reads, loneOf, loneAnswer, loneTracks, loneWords}
+use Rattle.area.specs.LoneLaws.{by-case, enough-records, enough-words}
 use Rattle.area.specs.Skip.{skipOf}
 use Rattle.area.specs.StandsLaws.{Shifted, shifted-then, shifted-front, shifted-behind, shifted-map, shifted-flat}
 use Rattle.area.specs.Table.{Table, areaOf, ofSlot, dsd64, ofTrack, frequencyWarnings, trackWarnings, readsOf, tracksOf, tracksWarnings, yieldOf, tableOf, areaGiven, tracksGiven, warningsOf, yields}
@@ -255,12 +255,6 @@ module _ (table : List ℕ) (tracks : List Track) (words : List ℕ) where
 
   pub lone-capped : LoneHolds (loneOf table (length tracks) (length words))
   unfolding loneAnswer
-  lone-capped = by-size (isOddTable (length table)) refl
-    where
-      by-room : isOddTable (length table) ≡ false → (z : Bool) → isShort (length tracks) (length words) ≡ z → LoneHolds (loneOf table (length tracks) (length words))
-      by-room sized true z = subst LoneHolds (sym (lone-short table (length tracks) (length words) sized z)) (λ e. absurd (omega (arith, e)))
-      by-room sized false z = subst LoneHolds (sym (lone-reads table (length tracks) (length words) sized z)) (read-capped z (ℕ-discrete (skipOf table) 0))
-
-      by-size : (z : Bool) → isOddTable (length table) ≡ z → LoneHolds (loneOf table (length tracks) (length words))
-      by-size true z = subst LoneHolds (sym (lone-odd table (length tracks) (length words) z)) (λ e. absurd (omega (arith, e)))
-      by-size false z = by-room z (isShort (length tracks) (length words)) refl
+  lone-capped =
+      by-case table (length tracks) (length words) LoneHolds (λ odd e. absurd (omega (arith, e))) (λ sized short e. absurd (omega (arith, e)))
+      (λ sized room. read-capped room (ℕ-discrete (skipOf table) 0))

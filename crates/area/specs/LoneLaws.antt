@@ -4,11 +4,12 @@ use mathlib.Core.Bool.{Bool, true, false, cond, _||_}
 use mathlib.Core.List.{List, _++_, map}
 use Prim.Native.Nat.{ℕ, _+_, _*_, _/_, _%_, _≤_}
 use native.Mathlib.Nat.{zero-add}
+use native.Mathlib.Decide.{ℕ-discrete}
 use native.Mathlib.Omega.{arith}
 use lib.Dec.{ltb, eqb}
 use lib.ListN.{length, length-append, length-map}
 use lib.Seq.{sets, length-sets}
-use borrow.Author.Tests.{ltb-false, eqb-true, eqb-false, not-false, eq-eqb, ne-eqb}
+use borrow.Author.Tests.{ltb-false, eqb-true, not-false, eq-eqb, ne-eqb}
 use Rattle.sectors.specs.Fill.{fill}
 use Rattle.sectors.specs.FillLaws.{sets-fill}
 use Rattle.sectors.specs.Format.{sectorSize}
@@ -22,7 +23,7 @@ use Rattle.area.specs.Refusal.{noAudioAreas, oddTable}
 use Rattle.area.specs.Warning.{wordOf}
 use Rattle.area.specs.Area.{noArea}
 use Rattle.area.specs.Skip.{skipOf}
-use Rattle.area.specs.Table.{skips, yields, ofSlot, areaOf, warningsOf, headOf, noHead, headWarnings, tracksIn, warningsIn}
+use Rattle.area.specs.Table.{Table, skips, yields, ofSlot, areaOf, warningsOf, headOf, noHead, headWarnings, tracksIn, warningsIn}
 use Rattle.area.specs.TableLaws.{head-yields, head-skips, head-skip-warned, head-skip-area, tracks-none, warnings-none, head-warnings-few, tracks-few, warnings-few}
 use Rattle.area.specs.Lone.{isOddTable, tableWords, isShort, loneSlot, loneSectors, Lone, refused, reads, loneOf, loneAnswer, loneTracks, loneWords}
 use Rattle.area.specs.Plan.{loneHead, refusing, planned, planOf, planWords, planAnswer}
@@ -77,7 +78,7 @@ module _ (table : List ℕ) (records words : ℕ) where
   unfolding loneOf
   lone-odd odd = simp odd
 
-  pub lone-short : isOddTable (length table) ≡ false → isShort records words ≡ true → loneOf table records words ≡ refused shortBuffer
+  lone-short : isOddTable (length table) ≡ false → isShort records words ≡ true → loneOf table records words ≡ refused shortBuffer
   unfolding loneOf
   lone-short sized short = simp (sized, short)
 
@@ -94,6 +95,21 @@ module _ (table : List ℕ) (records words : ℕ) where
         → loneOf table records words ≡ reads (yields (loneHead table .area) (tracksIn table (loneHead table)) (headWarnings loneSlot (loneHead table) ++ warningsIn table (loneHead table)))
     unfolding loneHead headOf
     lone-yields kept = lone-reads ∙ ap reads (head-yields table table loneSlot 0 (loneSectors table) (lone-bytes table sized) kept)
+
+  -- what holds in each case holds of what is read
+  pub by-case : (P : Lone → Type 0) → (isOddTable (length table) ≡ true → P (refused oddTable))
+      → (isOddTable (length table) ≡ false → isShort records words ≡ true → P (refused shortBuffer))
+      → (isOddTable (length table) ≡ false → isShort records words ≡ false → P (reads (areaOf table loneSlot 0 (loneSectors table))))
+      → P (loneOf table records words)
+  by-case P odd short read = by-size (isOddTable (length table)) refl
+    where
+      by-room : isOddTable (length table) ≡ false → (z : Bool) → isShort records words ≡ z → P (loneOf table records words)
+      by-room sized true z = subst P (sym (lone-short sized z)) (short sized z)
+      by-room sized false z = subst P (sym (lone-reads sized z)) (read sized z)
+
+      by-size : (z : Bool) → isOddTable (length table) ≡ z → P (loneOf table records words)
+      by-size true z = subst P (sym (lone-odd z)) (odd z)
+      by-size false z = by-room z (isShort records words) refl
 
 -- ---- what is decided before the tracks are read, and what the tracks add to it
 module _ (table : List ℕ) (tracks : List Track) (words : List ℕ) (plan : Plan) (noted : List ℕ) (count : ℕ) (filled : List Track) (written : List ℕ)
@@ -200,21 +216,15 @@ module _ (table : List ℕ) (tracks : List Track) (words : List ℕ) (plan : Pla
 
   -- plan, tracks and warnings are those of the lone table
   pub lone-read : Read (loneOf table (length tracks) (length words))
-  lone-read = by-size (isOddTable (length table)) refl
+  unfolding loneHead headOf
+  lone-read =
+      by-case table (length tracks) (length words) Read (λ odd. refused-read oddTable (odd-plan odd) (odd-words odd))
+      (λ sized short. refused-read shortBuffer (short-plan sized short) (short-words sized short))
+      (λ sized room. go sized room (ℕ-discrete (skipOf table) 0))
     where
-      by-skip : isOddTable (length table) ≡ false → isShort (length tracks) (length words) ≡ false → (z : Bool) → eqb (loneHead table .skip) 0 ≡ z
-          → Read (loneOf table (length tracks) (length words))
-      by-skip sized room true z =
-          let kept = eqb-true (loneHead table .skip) 0 z in
-          subst Read (sym (lone-yields table (length tracks) (length words) sized room kept)) (yielded-read sized room kept)
-      by-skip sized room false z =
-          let skipped = eqb-false (loneHead table .skip) 0 z in
-          subst Read (sym (lone-skips table (length tracks) (length words) sized room skipped)) (skipped-read sized room skipped)
-
-      by-room : isOddTable (length table) ≡ false → (z : Bool) → isShort (length tracks) (length words) ≡ z → Read (loneOf table (length tracks) (length words))
-      by-room sized true z = subst Read (sym (lone-short table (length tracks) (length words) sized z)) (refused-read shortBuffer (short-plan sized z) (short-words sized z))
-      by-room sized false z = by-skip sized z (eqb (loneHead table .skip) 0) refl
-
-      by-size : (z : Bool) → isOddTable (length table) ≡ z → Read (loneOf table (length tracks) (length words))
-      by-size true z = subst Read (sym (lone-odd table (length tracks) (length words) z)) (refused-read oddTable (odd-plan z) (odd-words z))
-      by-size false z = by-room z (isShort (length tracks) (length words)) refl
+      go : isOddTable (length table) ≡ false → isShort (length tracks) (length words) ≡ false → Dec (skipOf table ≡ 0)
+          → Read (reads (areaOf table loneSlot 0 (loneSectors table)))
+      go sized room (yes kept) =
+          subst (λ (x : Table). Read (reads x)) (sym (head-yields table table loneSlot 0 (loneSectors table) (lone-bytes table sized) kept)) (yielded-read sized room kept)
+      go sized room (no skipped) =
+          subst (λ (x : Table). Read (reads x)) (sym (head-skips table loneSlot 0 (loneSectors table) skipped)) (skipped-read sized room skipped)

@@ -33,14 +33,13 @@ use Rattle.disc.specs.Outcome.{Memory, Outcome, slotYields}
 use Rattle.disc.specs.Slot.{Slot, twoChannel, multichannel, slotNumber}
 use Rattle.disc.specs.SourceCut.{passed-yields}
 use Rattle.disc.specs.WarningBounds.{warnings-fit}
-use Rattle.disc.specs.WarningLaws.{OwnCode, every-copies, every-disc, every-table, warning-bytes, slot-number-few}
+use Rattle.disc.specs.WarningLaws.{OwnCode, own-not, every-copies, every-disc, every-table, warning-bytes, slot-number-few}
 
 -- ---- where 14 of a track is not
 
 -- no warning of the disc, or of a slot's copies, has its code
 own-not-14 : (n : ℕ) → OwnCode n → n ≢ trackPastPlaytime
-own-not-14 n (inl h) q = omega arith
-own-not-14 n (inr e) q = omega arith
+own-not-14 = own-not trackPastPlaytime (omega arith) (omega arith)
 
 module _ (number : ℕ) where
   -- warning 14 of the track of that number in a slot

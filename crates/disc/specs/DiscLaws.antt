@@ -178,27 +178,27 @@ module _ (s : Source) (z : Sized s) where
           go false false p q =
               (λ e. (no-area-none twoChannel (chosen s (pointerOf table twoChannel)) p, no-area-none multichannel (chosen s (pointerOf table multichannel)) q), λ e. refl)
 
--- The master record is what is made of the table.
-pub master-back : (s : Source) (table : List ℕ) (format : ℕ) (memory : Memory) → readingOf s table format memory .answer .master ≡ masterOf table
-unfolding readingOf answerOf accepted silent
-master-back s table format memory = go (hasArea (tableOf s table twoChannel) || hasArea (tableOf s table multichannel))
-  where
-    go : (b : Bool)
-        → cond b (accepted format (s .count) table (length (warningsOf s table)) (tableOf s table twoChannel) (tableOf s table multichannel)) (silent table (length (warningsOf s table))) .master
-        ≡ masterOf table
-    go true = refl
-    go false = refl
+-- What an accepted answer and a silent one both have, the reading has: the master record, and the count of the warnings.
+module _ (s : Source) (table : List ℕ) (format : ℕ) (memory : Memory) where
+  both-have : {A : Type 0} (f : DiscAnswer → A) (x : A)
+      → f (accepted format (s .count) table (length (warningsOf s table)) (tableOf s table twoChannel) (tableOf s table multichannel)) ≡ x
+      → f (silent table (length (warningsOf s table))) ≡ x → f (readingOf s table format memory .answer) ≡ x
+  unfolding readingOf answerOf
+  both-have f x first second = go (hasArea (tableOf s table twoChannel) || hasArea (tableOf s table multichannel))
+    where
+      go : (b : Bool)
+          → f (cond b (accepted format (s .count) table (length (warningsOf s table)) (tableOf s table twoChannel) (tableOf s table multichannel))
+          (silent table (length (warningsOf s table)))) ≡ x
+      go true = first
+      go false = second
 
--- The count is that of the warnings.
-pub count-back : (s : Source) (table : List ℕ) (format : ℕ) (memory : Memory) → readingOf s table format memory .answer .warnings ≡ length (warningsOf s table)
-unfolding readingOf answerOf accepted silent
-count-back s table format memory = go (hasArea (tableOf s table twoChannel) || hasArea (tableOf s table multichannel))
-  where
-    go : (b : Bool)
-        → cond b (accepted format (s .count) table (length (warningsOf s table)) (tableOf s table twoChannel) (tableOf s table multichannel)) (silent table (length (warningsOf s table))) .warnings
-        ≡ length (warningsOf s table)
-    go true = refl
-    go false = refl
+  pub master-back : readingOf s table format memory .answer .master ≡ masterOf table
+  unfolding accepted silent
+  master-back = both-have (λ a. a .master) (masterOf table) refl refl
+
+  pub count-back : readingOf s table format memory .answer .warnings ≡ length (warningsOf s table)
+  unfolding accepted silent
+  count-back = both-have (λ a. a .warnings) (length (warningsOf s table)) refl refl
 
 -- ---- the checks
 

@@ -108,18 +108,19 @@ module _ (P : Warning → Type 0) where
         (every-slot source twoChannel (pointerOf table twoChannel)))
         (every-slot source multichannel (pointerOf table multichannel))
 
--- ---- none has code 16
-own-not : (n : ℕ) → OwnCode n → n ≢ audioSectorMalformed
-own-not n (inl h) q = omega arith
-own-not n (inr e) q = omega arith
+-- none of these codes is another one above 7
+pub own-not : (other : ℕ) → areaTocUnreadable < other → other ≢ masterTocCopiesDiffer → (n : ℕ) → OwnCode n → n ≢ other
+own-not other above differs n (inl h) q = omega arith
+own-not other above differs n (inr e) q = differs (sym q ∙ e)
 
+-- ---- none has code 16
 table-not : (n : ℕ) → TableCode n → n ≢ audioSectorMalformed
 table-not n (inl h) q = let low = h .0 in let high = h .1 in omega arith
 table-not n (inr e) q = omega arith
 
 pub never-malformed : (source : Source) (table : List ℕ) (w : Warning) → List·Memᴰ w (warningsOf source table) → w .code ≢ audioSectorMalformed
 never-malformed =
-    every-warning (λ w. w .code ≢ audioSectorMalformed) (λ slot code few is. own-not code is) (λ bytes slot sectors w m.
+    every-warning (λ w. w .code ≢ audioSectorMalformed) (λ slot code few is. own-not audioSectorMalformed (omega arith) (omega arith) code is) (λ bytes slot sectors w m.
     table-not (w .code) (table-codes bytes (slotNumber slot) sectors w m))
 
 -- ---- slot and track are bytes

@@ -9,7 +9,7 @@ use ghost.Atoms.{Atoms}
 use contract.Lifetimes.{Lfts}
 use contract.Monad.{Fun, fact}
 use Rattle.area.specs.CappingCalls.{TableCall, TableCapped, table-capped}
-use Rattle.disc.specs.Calls.{LentCall, lentCall}
+use Rattle.disc.specs.Calls.{LentCall, lentCall, lent-says}
 use Rattle.disc.specs.Capping.{TracksCapped}
 use Rattle.disc.specs.CappingCalls.{call-capped}
 use Rattle.disc.specs.Demand3Calls.{Demanded, demanded}
@@ -25,10 +25,10 @@ module _ {M : Type 1} (𝓤 : URA M) (H : Heap 𝓤) (A : Atoms 𝓤) (mem : Sto
         (record { entry = x .format; exit = x .format }) (x .image) (x .work) (x .tracks) (x .words) (x .answer)
 
     pub scarletbook-read-disc-demanded : Demanded 𝓤 clause lentCall
-    scarletbook-read-disc-demanded = demanded 𝓤 clause lentCall (λ x. id⊢ 𝓤 (clause x))
+    scarletbook-read-disc-demanded = demanded 𝓤 clause lentCall (lent-says 𝓤)
 
     pub scarletbook-read-disc-capped : (x : LentCall) → ent 𝓤 (clause x) (fact 𝓤 (TracksCapped (lentCall x .outcome)))
-    scarletbook-read-disc-capped = call-capped 𝓤 clause lentCall (λ x. id⊢ 𝓤 (clause x))
+    scarletbook-read-disc-capped = call-capped 𝓤 clause lentCall (lent-says 𝓤)
 
   -- .. of `scarletbook_read_table`
   module _ (κs : Lfts 3) where
