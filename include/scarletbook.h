@@ -39,11 +39,11 @@ extern "C" {
 /* What disc reading is lent at least: bytes, records, words. */
 #define SCARLETBOOK_WORK_BYTES 544768
 #define SCARLETBOOK_TRACK_RECORDS 510
-#define SCARLETBOOK_WARNING_WORDS 1537
+#define SCARLETBOOK_WARNING_WORDS 2047
 
 /* What the reading of a lone table is lent at least: records, words. */
 #define SCARLETBOOK_MAX_TRACKS 255
-#define SCARLETBOOK_TABLE_WORDS 766
+#define SCARLETBOOK_TABLE_WORDS 1021
 
 /* A page of so many bytes has room for every text. */
 #define SCARLETBOOK_PAGE_BYTES 8192
@@ -80,6 +80,14 @@ enum {
     SCARLETBOOK_SOUND = 1,  /* a multiple of (x + 1)(x + alpha), and not blank */
     SCARLETBOOK_BLANK = 2,  /* six zero bytes, as in unwritten stretches, whatever the data are */
     SCARLETBOOK_UNSOUND = 3 /* no multiple */
+};
+
+/* ---- How a stored string ended; 0 for an absent text ---- */
+
+enum {
+    SCARLETBOOK_ENDED_BY_ZERO_BYTE = 1, /* before the first zero byte */
+    SCARLETBOOK_ENDED_BY_MAX_BYTES = 2, /* after 4,096 bytes, whatever stands behind them */
+    SCARLETBOOK_ENDED_BY_TABLE_END = 3  /* at the end of its table */
 };
 
 /* ---- Refusals ---- */
@@ -149,7 +157,8 @@ enum {
     SCARLETBOOK_TRACK_LSN_OUTSIDE_AREA = 15,
     SCARLETBOOK_AUDIO_SECTOR_MALFORMED = 16, /* never comes from this library */
     SCARLETBOOK_MASTER_TOC_COPIES_DIFFER = 17,
-    SCARLETBOOK_SAMPLE_FREQUENCY_UNKNOWN = 18
+    SCARLETBOOK_SAMPLE_FREQUENCY_UNKNOWN = 18,
+    SCARLETBOOK_TRACK_TEXT_UNTERMINATED = 19
 };
 
 /* A warning word is code times 65,536 + slot times 256 + track. */
@@ -172,7 +181,7 @@ static inline uint8_t scarletbook_warning_track(uint32_t word)
     return (uint8_t)word;
 }
 
-/* The name of a warning's code in a catalogue; "" for 0 and above 18. */
+/* The name of a warning's code in a catalogue; "" for 0 and above 19. */
 static inline const char *scarletbook_warning_name(uint8_t code)
 {
     static const char *const names[] = {
@@ -195,11 +204,12 @@ static inline const char *scarletbook_warning_name(uint8_t code)
         "audio-sector-malformed",
         "master-toc-copies-differ",
         "sample-frequency-unknown",
+        "track-text-unterminated",
     };
-    return code <= SCARLETBOOK_SAMPLE_FREQUENCY_UNKNOWN ? names[code] : "";
+    return code <= SCARLETBOOK_TRACK_TEXT_UNTERMINATED ? names[code] : "";
 }
 
-/* What a warning's code says of the disc, area or track, in words; "" for 0 and above 18. */
+/* What a warning's code says of the disc, area or track, in words; "" for 0 and above 19. */
 static inline const char *scarletbook_warning_words(uint8_t code)
 {
     static const char *const words[] = {
@@ -222,8 +232,9 @@ static inline const char *scarletbook_warning_words(uint8_t code)
         "a malformed audio sector",
         "a copy of the master table differs",
         "its sample frequency code is not that of DSD64",
+        "has a text that no zero byte ends",
     };
-    return code <= SCARLETBOOK_SAMPLE_FREQUENCY_UNKNOWN ? words[code] : "";
+    return code <= SCARLETBOOK_TRACK_TEXT_UNTERMINATED ? words[code] : "";
 }
 
 /* ---- Items: the texts of a disc, of an area and of a track ---- */
@@ -347,9 +358,10 @@ typedef struct scarletbook_track_times {
     scarletbook_timecode stored_duration;
 } scarletbook_track_times;
 
-/* The place of a text's string in its table; 0 for an absent text. */
+/* The place of a text's string in its table, and how the string ended; both 0 for an absent text. */
 typedef struct scarletbook_text_place {
     uint32_t place;
+    uint8_t end; /* SCARLETBOOK_ENDED_BY_ZERO_BYTE, _MAX_BYTES or _TABLE_END */
 } scarletbook_text_place;
 
 /* A track; an absent ISRC or genre is zero. */
@@ -592,7 +604,8 @@ scarletbook_table_head_record scarletbook_table_head(const uint8_t *table, size_
 
 /*
  * Draws the next item of a track's text, from a place of the table on, of so many that are left, empty and
- * unknown ones included. Each draw goes on with `next` and `left` of the one before. Never refused.
+ * unknown ones included. Each draw goes on with `next` and `left` of the one before. Never refused. How the
+ * string of an item ended is what scarletbook_string_end says of its place, 2 behind the `next` of the call.
  */
 scarletbook_draw_answer scarletbook_draw_at(const uint8_t *table, size_t table_len, size_t next, size_t left);
 
@@ -679,6 +692,12 @@ uint32_t scarletbook_be32_at(const uint8_t *table, size_t table_len, size_t at);
  * table's end.
  */
 size_t scarletbook_string_length(const uint8_t *table, size_t table_len, size_t place);
+
+/*
+ * How the string at a place ended: SCARLETBOOK_ENDED_BY_ZERO_BYTE, _MAX_BYTES or _TABLE_END. Where 4,096 bytes reach
+ * just to a zero byte or to the table's end, it is _MAX_BYTES; at the table's end and past it, _TABLE_END.
+ */
+uint8_t scarletbook_string_end(const uint8_t *table, size_t table_len, size_t place);
 
 /* The set that a code names: 3 to 6, or 0 for Latin-1. */
 uint8_t scarletbook_charset(uint8_t code);

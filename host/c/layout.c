@@ -107,6 +107,7 @@ static void print_text_place(void)
 {
     RECORD(text_place, scarletbook_text_place);
     FIELD(uint32_t, place);
+    FIELD(uint8_t, end);
 }
 
 static void print_comparison(void)

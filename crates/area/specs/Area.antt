@@ -1,15 +1,14 @@
 -- The record of an area (01, "Area": "Fixed fields, locales (at most 10) and area texts stand at the offsets in `read_area`").
 -- Assumes nothing.
 use Prim.Native.Nat.{ℕ, _+_, _*_}
-use mathlib.Core.Bool.{Bool, cond, not, _||_}
+use mathlib.Core.Bool.{cond}
 use mathlib.Core.List.{List, [], _∷_}
 use lib.Bits.{bitAnd}
-use lib.Dec.{eqb}
 use lib.ListN.{replicate}
 use Rattle.sectors.specs.Number.{beAt}
 use Rattle.sectors.specs.Signature.{signedAt}
-use Rattle.text.specs.String.{stringAt, present}
 use Rattle.area.specs.Tabulate.{tabulate}
+use Rattle.area.specs.TextPlaces.{noTextPlace, textPlaceAt}
 use Rattle.area.specs.Units.{lsnAt}
 use Rattle.area.specs.Timecode.{timecodeAt}
 use Rattle.area.specs.Locale.{maxLocales, noLocale, localesAt, localeCount}
@@ -55,14 +54,6 @@ areaTexts = 4
 -- where the offsets of its texts stand
 abbrev pub areaTextsOffset : ℕ
 areaTextsOffset = 144
-
--- whether no text stands at an offset: none does at 0
-unfoldable pub isAbsent : List ℕ → ℕ → Bool
-isAbsent table offset = eqb offset 0 || not (present (stringAt table offset))
-
--- the place of the text whose offset stands in two bytes from a place on; 0 for an absent one
-unfoldable pub textPlaceAt : List ℕ → ℕ → TextPlace
-textPlaceAt table at = record { place = cond (isAbsent table (beAt table at 2)) 0 (beAt table at 2) }
 
 unfoldable pub areaTextsAt : List ℕ → List TextPlace
 areaTextsAt table = tabulate areaTexts (λ item. textPlaceAt table (areaTextsOffset + 2 * item))
@@ -145,5 +136,5 @@ noArea = record {
   «locale_count» = 0;
   locales = replicate maxLocales noLocale;
   «text_charset» = 0;
-  text = replicate areaTexts (record { place = 0 });
+  text = replicate areaTexts noTextPlace;
 }

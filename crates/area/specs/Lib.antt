@@ -14,6 +14,7 @@ pub mod Cap
 pub mod CapLaws
 pub mod Chain
 pub mod Locale
+pub mod TextPlaces
 pub mod Area
 pub mod Skip
 pub mod SkipLaws

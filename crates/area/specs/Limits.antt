@@ -16,12 +16,12 @@ maxTableBytes = 262144
 abbrev pub maxTracks : ℕ
 maxTracks = 255
 
--- warnings at most: of a table's head one of 8 to 11 or 18; of a track 14, 15, and 12 or 13
+-- warnings at most: of a table's head one of 8 to 11 or 18; of a track 14, 15, 12 or 13, and 19
 abbrev pub maxHeadWarnings : ℕ
 maxHeadWarnings = 1
 
 abbrev pub maxTrackWarnings : ℕ
-maxTrackWarnings = 3
+maxTrackWarnings = 4
 
 -- "a sector count above 128 counts as 128"
 unfoldable pub tableSize : ℕ → ℕ

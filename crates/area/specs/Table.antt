@@ -6,10 +6,11 @@ use lib.Dec.{ltb, eqb}
 use Rattle.area.specs.Tabulate.{tabulate}
 use Rattle.area.specs.Lent.{whenTrue}
 use Rattle.area.specs.Limits.{maxTracks, tableBytes}
-use Rattle.area.specs.Warning.{trackPastPlaytime, trackLsnOutsideArea, sampleFrequencyUnknown}
+use Rattle.area.specs.Warning.{trackPastPlaytime, trackLsnOutsideArea, sampleFrequencyUnknown, trackTextUnterminated}
 use Rattle.area.specs.Chain.{chainOf, nothingKept}
 use Rattle.area.specs.Area.{recordOf, addressed, noArea}
 use Rattle.area.specs.Skip.{skipOf}
+use Rattle.area.specs.TextPlaces.{anyUnterminated}
 use Rattle.area.specs.Track.{trackOf, noRead}
 use Rattle.area.specs.declared.area.Area.{Area}
 use Rattle.area.specs.declared.chain.Chain.{Chain}
@@ -39,12 +40,13 @@ frequencyWarnings slot area = whenTrue (not (eqb (area .«sample_frequency_code�
 unfoldable pub ofTrack : ℕ → ℕ → TrackRead → Warning
 ofTrack code slot read = record { code = code; slot = slot; track = read .track .number }
 
--- "Per track the order is 14, 15, then 12 or 13."
+-- "Per track the order is 14, 15, then 12 or 13.", and of 19: "once, after 12 or 13" (02, item 5)
 unfoldable pub trackWarnings : ℕ → TrackRead → List Warning
 trackWarnings slot read =
     whenTrue (read .«past_playtime») (ofTrack trackPastPlaytime slot read)
     ++ whenTrue (read .«outside_area») (ofTrack trackLsnOutsideArea slot read)
     ++ whenTrue (not (eqb (read .«text_warning») 0)) (ofTrack (read .«text_warning») slot read)
+    ++ whenTrue (anyUnterminated (read .track .text)) (ofTrack trackTextUnterminated slot read)
 
 -- the tracks of a table, each with what it is warned of
 unfoldable pub readsOf : List ℕ → Area → Chain → List TrackRead

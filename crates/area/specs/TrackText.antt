@@ -6,6 +6,7 @@ use lib.Dec.{leb, ltb, eqb}
 use lib.ListN.{length, set, replicate}
 use Rattle.sectors.specs.Number.{beAt}
 use Rattle.area.specs.Items.{Item, itemsFrom}
+use Rattle.area.specs.TextPlaces.{noTextPlace, textPlace}
 use Rattle.area.specs.Warning.{trackTextOffsetInvalid, trackTextTypeUnknown}
 use Rattle.area.specs.declared.text_places.TextPlace.{TextPlace}
 use Rattle.area.specs.declared.track_text.ItemsKept.{ItemsKept}
@@ -21,27 +22,28 @@ itemIndex kind = cond (leb 1 kind && leb kind 7) (kind - 1) (cond (leb 129 kind 
 
 -- no text is there
 unfoldable pub noPlaces : List TextPlace
-noPlaces = replicate trackTexts (record { place = 0 })
+noPlaces = replicate trackTexts noTextPlace
 
 unfoldable pub noItems : ItemsKept
 noItems = record { places = noPlaces; unknown = false }
 
--- "the last nonempty of a type stays; the first nonempty unknown type gives 13": an item kept over those before it
-unfoldable pub keep : Item → ItemsKept → ItemsKept
-keep item before =
+-- "the last nonempty of a type stays; the first nonempty unknown type gives 13": an item of a table kept over those
+-- before it
+unfoldable pub keep : List ℕ → Item → ItemsKept → ItemsKept
+keep table item before =
     cond (eqb (item .len) 0) before
     (cond (ltb (itemIndex (item .kind)) trackTexts)
-    (record { places = set (before .places) (itemIndex (item .kind)) (record { place = item .place }); unknown = before .unknown })
+    (record { places = set (before .places) (itemIndex (item .kind)) (textPlace table (item .place)); unknown = before .unknown })
     (record { places = before .places; unknown = true }))
 
 -- the items kept, one after the other
-unfoldable pub keepAll : List Item → ItemsKept → ItemsKept
-keepAll [] before = before
-keepAll (item ∷ items) before = keepAll items (keep item before)
+unfoldable pub keepAll : List ℕ → List Item → ItemsKept → ItemsKept
+keepAll table [] before = before
+keepAll table (item ∷ items) before = keepAll table items (keep table item before)
 
 -- what the walk's items give
 unfoldable pub itemsKept : List ℕ → ℕ → ℕ → ItemsKept
-itemsKept table place count = keepAll (itemsFrom table place count) noItems
+itemsKept table place count = keepAll table (itemsFrom table place count) noItems
 
 unfoldable pub noText : ℕ → TrackText
 noText warning = record { places = noPlaces; warning = warning }

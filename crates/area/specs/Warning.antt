@@ -33,3 +33,7 @@ trackLsnOutsideArea = 15
 
 abbrev pub sampleFrequencyUnknown : ℕ
 sampleFrequencyUnknown = 18
+
+-- "A track with such a text not ended by a zero byte gets warning 19" (02, item 5)
+abbrev pub trackTextUnterminated : ℕ
+trackTextUnterminated = 19

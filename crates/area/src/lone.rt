@@ -24,7 +24,7 @@ pub const LONE_SLOT: u8 = 1;
 // Warnings of a table's head at most, and of a track.
 const MAX_HEAD_WARNINGS: usize = 1;
 
-const MAX_TRACK_WARNINGS: usize = 3;
+const MAX_TRACK_WARNINGS: usize = 4;
 
 // Warning words that a lone table asks for.
 pub const TABLE_WORDS: usize = MAX_HEAD_WARNINGS + MAX_TRACKS * MAX_TRACK_WARNINGS;
@@ -94,7 +94,7 @@ pub(crate) fn table_answer(plan: Plan, warnings: usize) -> TableAnswer
     }
 }
 
-// Reads a lone table: its area's record, its tracks into a list of at least 255, its warnings into at least 766 words. Refusals other
+// Reads a lone table: its area's record, its tracks into a list of at least 255, its warnings into at least 1,021 words. Refusals other
 // than 6 change nothing.
 pub fn read_table(table: &[u8], tracks: &mut [Track], words: &mut [u32]) -> TableAnswer
     ensures { λ r. ⌜ (r ≡ loneAnswer (loneOf (now (table .entry)) (length (now (tracks .entry))) (length (now (words .entry))))) × ((now (tracks .exit) ≡ loneTracks (loneOf (now (table .entry)) (length (now (tracks .entry))) (length (now (words .entry)))) (now (tracks .entry))) × (now (words .exit) ≡ loneWords (loneOf (now (table .entry)) (length (now (tracks .entry))) (length (now (words .entry)))) (now (words .entry)))) ⌝ }

@@ -15,6 +15,7 @@ use crate::chain::Chain;
 use crate::chain::no_chain;
 use crate::chain::walk;
 use crate::skip::skip_of;
+use crate::text_places::any_unterminated;
 use crate::track::Track;
 use crate::track::TrackRead;
 use crate::track::no_read;
@@ -22,6 +23,7 @@ use crate::track::track_of;
 use crate::warning::SAMPLE_FREQUENCY_UNKNOWN;
 use crate::warning::TRACK_LSN_OUTSIDE_AREA;
 use crate::warning::TRACK_PAST_PLAYTIME;
+use crate::warning::TRACK_TEXT_UNTERMINATED;
 use crate::warning::Warning;
 use crate::warning::push;
 use sectors::sector::Lsn;
@@ -114,7 +116,7 @@ pub fn push_head(words: &mut [u32], count: usize, slot: u8, head: TableHead) -> 
     )
 }
 
-// Writes the warnings of a track: past the play time, outside the area, then its text's.
+// Writes the warnings of a track: past the play time, outside the area, its text's, then that of a text without a zero byte.
 fn push_track(words: &mut [u32], count: usize, slot: u8, read: TrackRead) -> usize
     ensures written { λ r. ⌜ now (words .exit) ≡ sets (now (words .entry)) count (map wordOf (trackWarnings slot read)) ⌝ }
     ensures counted { λ r. ⌜ r ≡ counted (now (words .entry)) count (trackWarnings slot read) ⌝ }
@@ -136,9 +138,15 @@ fn push_track(words: &mut [u32], count: usize, slot: u8, read: TrackRead) -> usi
         slot,
         track: number,
     };
+    let unterminated = Warning {
+        code: TRACK_TEXT_UNTERMINATED,
+        slot,
+        track: number,
+    };
     let n = push(words, count, read.past_playtime, past);
     let m = push(words, n, read.outside_area, outside);
-    push(words, m, read.text_warning != 0, text)
+    let k = push(words, m, read.text_warning != 0, text);
+    push(words, k, any_unterminated(track.text), unterminated)
 }
 
 // The head of no table.

@@ -24,6 +24,9 @@ pub const TRACK_LSN_OUTSIDE_AREA: u8 = 15;
 
 pub const SAMPLE_FREQUENCY_UNKNOWN: u8 = 18;
 
+// Not in `WarningCode`.
+pub const TRACK_TEXT_UNTERMINATED: u8 = 19;
+
 // A warning: its code, the slot (0 for the disc) and the track (0 for none).
 pub struct Warning {
     pub code: u8,

@@ -27,7 +27,7 @@ ghost use Rattle.text.specs.Charset.{charsetOf};
 ghost use Rattle.text.specs.Decode.{decodeOf, decodeInto};
 ghost use Rattle.text.specs.Fixed.{fixedBytesOf, fixedTextOf};
 ghost use Rattle.text.specs.Language.{languageOf};
-ghost use Rattle.text.specs.String.{stringAt};
+ghost use Rattle.text.specs.String.{stringAt, endOf};
 ghost use Rattle.scarletbook.specs.Answers.{flagOf, capAnswer, drawAnswer};
 use area::area::Area;
 use area::cap::Capped;
@@ -196,6 +196,14 @@ pub extern "C" fn scarletbook_string_length(table: &[u8], place: usize) -> usize
     bytes.len()
 }
 
+// How the string at a place ended: 1 by a zero byte, 2 by 4,096 bytes, 3 by the table's end.
+#[no_mangle]
+pub extern "C" fn scarletbook_string_end(table: &[u8], place: usize) -> u8
+    ensures { λ r. ⌜ r ≡ endOf (now (table .entry)) place ⌝ }
+{
+    text::string::string_end(table, place)
+}
+
 // The set of a code: 3 to 6, or 0 for Latin-1.
 #[no_mangle]
 pub extern "C" fn scarletbook_charset(code: u8) -> u8
@@ -324,7 +332,7 @@ pub extern "C" fn scarletbook_table_head(
     area::table::table_head(table, slot, lsn, sectors)
 }
 
-// Reads a lone table: its area's record, its tracks into a list of at least 255, its warnings into at least 766 words.
+// Reads a lone table: its area's record, its tracks into a list of at least 255, its warnings into at least 1,021 words.
 #[no_mangle]
 pub extern "C" fn scarletbook_read_table(
     table: &[u8],
@@ -345,7 +353,7 @@ pub extern "C" fn scarletbook_detect_format(image: &[u8]) -> DetectAnswer
 }
 
 // Reads a disc from one lent image: its master record and the records of its areas, its tables into at least 544,768 work bytes, its
-// tracks into a list of at least 510, its warnings into at least 1,537 words. Refusals other than 6 change nothing.
+// tracks into a list of at least 510, its warnings into at least 2,047 words. Refusals other than 6 change nothing.
 #[no_mangle]
 pub extern "C" fn scarletbook_read_disc(
     format: u32,

@@ -1,5 +1,5 @@
--- Stored strings (01, "Text"), and those that a record places in its table (01, "Area"). Assumes nothing.
-use Prim.Native.Nat.{ℕ, min}
+-- Stored strings (01, "Text"), how they end (02, item 5), and those that a record places in its table (01, "Area"). Assumes nothing.
+use Prim.Native.Nat.{ℕ, _+_, min}
 use mathlib.Core.Bool.{Bool, cond, not}
 use mathlib.Core.List.{List, []}
 use lib.Dec.{eqb, ltb}
@@ -27,6 +27,24 @@ stringAt table place = untilZero (part place maxStringBytes table)
 -- past it
 unfoldable pub stringStart : List ℕ → ℕ → ℕ
 stringStart table place = min place (length table)
+
+-- "A stored string shall also say how it ended: zero byte, 4,096 bytes, or end of table." (02, item 5)
+abbrev pub endedByZeroByte : ℕ
+endedByZeroByte = 1
+
+abbrev pub endedByMaxBytes : ℕ
+endedByMaxBytes = 2
+
+abbrev pub endedByTableEnd : ℕ
+endedByTableEnd = 3
+
+-- "Where 4,096 bytes reach just to the end of the table or to a zero byte, it says 4,096 bytes.": that is asked first. Of a string of so many bytes
+-- at a place of a table of so many
+unfoldable pub endBy : ℕ → ℕ → ℕ → ℕ
+endBy size place len = cond (eqb len maxStringBytes) endedByMaxBytes (cond (ltb (place + len) size) endedByZeroByte endedByTableEnd)
+
+unfoldable pub endOf : List ℕ → ℕ → ℕ
+endOf table place = endBy (length table) place (length (stringAt table place))
 
 -- "Present means at least one byte."
 unfoldable pub present : List ℕ → Bool

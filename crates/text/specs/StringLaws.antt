@@ -1,11 +1,12 @@
 -- Laws of stored strings. Assumes nothing.
-use mathlib.Core.Path.{_≡_, refl, sym, ap, _∙_}
+use mathlib.Core.Path.{_≡_, refl, sym, ap, subst, _∙_}
 use mathlib.Core.Bool.{Bool, true, false, not, cond}
 use mathlib.Core.List.{List, [], _∷_}
 use Prim.Native.Nat.{ℕ, suc, _+_, _-_, _≤_, _<_}
+use native.Mathlib.Decide.{ℕ-discrete}
 use native.Mathlib.Nat.{add-zero}
 use native.Mathlib.Omega.{arith}
-use borrow.Author.Tests.{eqb-true, eqb-false, eq-eqb, ne-eqb, not-true, not-false, lt-ltb, ltb-true, ltb-false}
+use borrow.Author.Tests.{eqb-true, eqb-false, eq-eqb, ne-eqb, not-true, not-false, lt-ltb, le-ltb, ltb-true, ltb-false}
 use lib.Dec.{eqb, ltb}
 use lib.ListN.{length, getD, take, List·getD-eq-default}
 use lib.Seq.{take-all}
@@ -13,7 +14,7 @@ use Rattle.sectors.specs.Fill.{part}
 use Rattle.sectors.specs.FillLaws.{part-past, part-size, part-at, take-part}
 use Rattle.text.specs.While.{takeWhile}
 use Rattle.text.specs.WhileLaws.{front-taken, while-front, while-length, while-passes, while-stops}
-use Rattle.text.specs.String.{nonzero, untilZero, maxStringBytes, stringAt, present, placedString}
+use Rattle.text.specs.String.{nonzero, untilZero, maxStringBytes, stringAt, endedByZeroByte, endedByMaxBytes, endedByTableEnd, endBy, endOf, present, placedString}
 
 module _ (b : ℕ) where
   -- a byte that passes the test is not zero
@@ -158,3 +159,89 @@ module _ (table : List ℕ) (place : ℕ) where
       go : (t : Bool) → eqb place 0 ≡ t → placedString table place ≡ []
       go true e = placed-none (eqb-true place 0 e)
       go false e = placed-there (eqb-false place 0 e) ∙ string-past h
+
+-- ---- how a string ended
+
+module _ (size place len : ℕ) where
+  pub end-max : len ≡ maxStringBytes → endBy size place len ≡ endedByMaxBytes
+  unfolding endBy
+  end-max e = simp (eq-eqb len maxStringBytes e)
+
+  pub end-zero : (len ≡ maxStringBytes → ⊥) → place + len < size → endBy size place len ≡ endedByZeroByte
+  unfolding endBy
+  end-zero n h = simp (ne-eqb len maxStringBytes n, lt-ltb (place + len) size h)
+
+  pub end-table : (len ≡ maxStringBytes → ⊥) → size ≤ place + len → endBy size place len ≡ endedByTableEnd
+  unfolding endBy
+  end-table n h = simp (ne-eqb len maxStringBytes n, le-ltb (place + len) size h)
+
+module _ (table : List ℕ) (place : ℕ) where
+  abbrev size : ℕ
+  size = length table
+
+  abbrev n : ℕ
+  n = length (stringAt table place)
+
+  pub end-of : endOf table place ≡ endBy size place n
+  unfolding endOf
+  end-of = refl
+
+  -- what the end is said to be, by the three cases
+  by-end : (P : ℕ → Type 0) → (n ≡ maxStringBytes → P endedByMaxBytes) → ((n ≡ maxStringBytes → ⊥) → place + n < size → P endedByZeroByte)
+      → ((n ≡ maxStringBytes → ⊥) → size ≤ place + n → P endedByTableEnd) → P (endOf table place)
+  by-end P max zero-byte table-end = go (ℕ-discrete n maxStringBytes) (ltb (place + n) size) refl
+    where
+      said : {end : ℕ} → endBy size place n ≡ end → P end → P (endOf table place)
+      said e = subst P (sym (end-of ∙ e))
+
+      go : Dec (n ≡ maxStringBytes) → (t : Bool) → ltb (place + n) size ≡ t → P (endOf table place)
+      go (yes e) t f = said (end-max size place n e) (max e)
+      go (no e) true f = let h = ltb-true (place + n) size f in said (end-zero size place n e h) (zero-byte e h)
+      go (no e) false f = let h = ltb-false (place + n) size f in said (end-table size place n e h) (table-end e h)
+
+  -- a string that says zero byte is followed by one
+  pub end-is-zero : endOf table place ≡ endedByZeroByte → getD table (place + n) 0 ≡ 0
+  end-is-zero =
+      by-end (λ end. end ≡ endedByZeroByte → getD table (place + n) 0 ≡ 0) (λ max e. absurd (omega (arith, e)))
+      (λ short inside e. string-zero table place (omega (arith, string-length table place)) (omega arith)) (λ short past e. absurd (omega (arith, e)))
+
+  -- one that says 4,096 bytes has as many
+  pub end-is-max : endOf table place ≡ endedByMaxBytes → n ≡ maxStringBytes
+  end-is-max =
+      by-end (λ end. end ≡ endedByMaxBytes → n ≡ maxStringBytes) (λ max e. max) (λ short inside e. absurd (omega (arith, e)))
+      (λ short past e. absurd (omega (arith, e)))
+
+  -- one that says end of table, and that begins in the table, reaches it
+  pub end-is-table : endOf table place ≡ endedByTableEnd → place ≤ size → place + n ≡ size
+  end-is-table =
+      by-end (λ end. end ≡ endedByTableEnd → place ≤ size → place + n ≡ size) (λ max e. absurd (omega (arith, e)))
+      (λ short inside e. absurd (omega (arith, e))) (λ short past e begins. omega (arith, string-end table place))
+
+-- ---- of two tables of the same length
+
+-- a string is no longer than that of a table whose zero bytes are zero here too
+no-longer : (s t : List ℕ) (place : ℕ) → length s ≡ length t → ((i : ℕ) → getD s i 0 ≡ 0 → getD t i 0 ≡ 0)
+    → length (stringAt t place) ≤ length (stringAt s place)
+no-longer s t place same zeros = go (ltb n m) refl
+  where
+    n : ℕ
+    n = length (stringAt s place)
+
+    m : ℕ
+    m = length (stringAt t place)
+
+    go : (b : Bool) → ltb n m ≡ b → m ≤ n
+    go true e =
+        let longer = ltb-true n m e in
+        absurd (string-nonzero t place n longer
+        (zeros (place + n) (string-zero s place (omega (arith, string-length t place)) (omega (arith, string-end t place)))))
+    go false e = ltb-false n m e
+
+-- where the zero bytes of both stand at the same places, their strings end in the same way
+pub zeros-same-end : (s t : List ℕ) (place : ℕ) → length s ≡ length t → ((i : ℕ) → nonzero (getD s i 0) ≡ nonzero (getD t i 0))
+    → endOf s place ≡ endOf t place
+zeros-same-end s t place same zeros =
+    let shorter = no-longer s t place same (λ i z. nonzero-false (getD t i 0) (sym (zeros i) ∙ eq-nonzero (getD s i 0) z)) in
+    let longer = no-longer t s place (sym same) (λ i z. nonzero-false (getD s i 0) (zeros i ∙ eq-nonzero (getD t i 0) z)) in
+    let length-same : length (stringAt s place) ≡ length (stringAt t place) = omega arith in
+    end-of s place ∙ (λ i. endBy (same i) place (length-same i)) ∙ sym (end-of t place)

@@ -1,13 +1,20 @@
-// Stored strings: the bytes of a table from a place up to a zero byte.
+// Stored strings: the bytes of a table from a place up to a zero byte, and how they ended.
 ghost use mathlib.Core.Path.{_≡_};
 ghost use Prim.Native.Nat.{min};
 ghost use denote.Ref.{ptr};
 ghost use lib.ListN.{length};
 ghost use Rattle.sectors.specs.Fill.{part, startAt};
-ghost use Rattle.text.specs.String.{untilZero, maxStringBytes, stringAt, stringStart};
+ghost use Rattle.text.specs.String.{untilZero, maxStringBytes, stringAt, stringStart, endBy, endOf};
 
 // Bytes that a string has at most.
 pub const MAX_STRING_BYTES: usize = 4096;
+
+// How a string ended.
+pub const ENDED_BY_ZERO_BYTE: u8 = 1;
+
+pub const ENDED_BY_MAX_BYTES: u8 = 2;
+
+pub const ENDED_BY_TABLE_END: u8 = 3;
 
 // How many bytes stand before the first zero byte; all, if there is none.
 pub(crate) fn zero_in(bytes: &[u8]) -> usize
@@ -48,4 +55,27 @@ pub fn string_bytes<'a>(table: &'a [u8], place: usize) -> &'a [u8]
     let window = string_window(table, place);
     let n = zero_in(window);
     &window[..n]
+}
+
+// How the string of so many bytes ended that stands at a place of a table of so many.
+pub fn end_by(size: usize, place: usize, len: usize) -> u8
+    ensures { λ r. ⌜ r ≡ endBy size place len ⌝ }
+{
+    if len == MAX_STRING_BYTES {
+        return ENDED_BY_MAX_BYTES;
+    }
+    if size <= place {
+        return ENDED_BY_TABLE_END;
+    }
+    if len < size - place {
+        return ENDED_BY_ZERO_BYTE;
+    }
+    ENDED_BY_TABLE_END
+}
+
+// How the string at a place ended; one at the table's end, or past it, by that.
+pub fn string_end(table: &[u8], place: usize) -> u8
+    ensures { λ r. ⌜ r ≡ endOf (now (table .entry)) place ⌝ }
+{
+    end_by(table.len(), place, string_bytes(table, place).len())
 }

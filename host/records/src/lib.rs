@@ -151,7 +151,7 @@ records! {
     "area_pointer" AreaPointer { toc1_lsn, toc2_lsn, toc_sectors }
     "table_origin" TableOrigin { slot, toc_lsn, toc_sectors }
     "track_times" TrackTimes { start_frame, duration_frames, stored_start, stored_duration }
-    "text_place" TextPlace { place }
+    "text_place" TextPlace { place, end }
     "comparison" Comparison { refusal, equal }
     "fingerprint_answer" FingerprintAnswer { refusal, digest }
     "audit_answer" AuditAnswer { refusal, verdict }

@@ -52,6 +52,7 @@ unsafe extern "C" {
     fn scarletbook_be16_at(table: *const u8, table_len: usize, at: usize) -> u16;
     fn scarletbook_be32_at(table: *const u8, table_len: usize, at: usize) -> u32;
     fn scarletbook_string_length(table: *const u8, table_len: usize, place: usize) -> usize;
+    fn scarletbook_string_end(table: *const u8, table_len: usize, place: usize) -> u8;
     safe fn scarletbook_charset(code: u8) -> u8;
     fn scarletbook_decode(
         bytes: *const u8,
@@ -286,6 +287,16 @@ pub fn be32_at(table: &[u8], at: usize) -> u32 {
 pub fn string_length(table: &[u8], place: usize) -> usize {
     // SAFETY: the pointer and length are those of a slice.
     unsafe { scarletbook_string_length(table.as_ptr(), table.len(), place) }
+}
+
+/// How the string at `place` ended: [`ENDED_BY_ZERO_BYTE`](crate::record::ENDED_BY_ZERO_BYTE),
+/// [`ENDED_BY_MAX_BYTES`](crate::record::ENDED_BY_MAX_BYTES) where it has 4,096 bytes, whatever stands
+/// behind them, or [`ENDED_BY_TABLE_END`](crate::record::ENDED_BY_TABLE_END), at the table's end and
+/// past it too.
+#[inline]
+pub fn string_end(table: &[u8], place: usize) -> u8 {
+    // SAFETY: the pointer and length are those of a slice.
+    unsafe { scarletbook_string_end(table.as_ptr(), table.len(), place) }
 }
 
 /// The string at `place`, as a part of the table.

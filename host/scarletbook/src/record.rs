@@ -10,7 +10,7 @@ pub const PAGE_BYTES: usize = 8192;
 /// The track records that [`read_table`](crate::raw::read_table) and [`decode_track_text`](crate::raw::decode_track_text) are lent at least.
 pub const MAX_TRACKS: usize = 255;
 /// The warning words that [`read_table`](crate::raw::read_table) is lent at least.
-pub const TABLE_WORDS: usize = 766;
+pub const TABLE_WORDS: usize = 1021;
 /// The locales of a record at most.
 pub const MAX_LOCALES: usize = 10;
 /// The texts of an area.
@@ -22,7 +22,7 @@ pub const WORK_BYTES: usize = 544_768;
 /// The track records that [`read_disc`](crate::raw::read_disc) and its decoding of track texts are lent at least.
 pub const TRACK_RECORDS: usize = 510;
 /// The warning words that [`read_disc`](crate::raw::read_disc) is lent at least.
-pub const WARNING_WORDS: usize = 1537;
+pub const WARNING_WORDS: usize = 2047;
 /// Where the tables of the two slots and the master table begin in the work bytes.
 pub const REGIONS: [usize; 3] = [0, 262_144, 524_288];
 /// The first track record of each slot.
@@ -40,6 +40,13 @@ pub const SOUND: u8 = 1;
 pub const BLANK: u8 = 2;
 /// The verdict on a header that is no multiple.
 pub const UNSOUND: u8 = 3;
+
+/// The end of a stored string that a zero byte ended.
+pub const ENDED_BY_ZERO_BYTE: u8 = 1;
+/// The end of one that was cut after 4,096 bytes, whatever stands behind them.
+pub const ENDED_BY_MAX_BYTES: u8 = 2;
+/// The end of one that reached the end of its table.
+pub const ENDED_BY_TABLE_END: u8 = 3;
 
 /// The answer of [`fingerprint`](crate::raw::fingerprint).
 #[repr(C)]
@@ -169,11 +176,13 @@ pub struct Locale {
     pub charset: u8,
 }
 
-/// The place of a text's string in its table; 0 for an absent text.
+/// The place of a text's string in its table, and how the string ended; both 0 for an absent text.
 #[repr(C)]
 #[derive(Clone, Copy, Debug, Default, PartialEq, Eq)]
 pub struct TextPlace {
     pub place: u32,
+    /// [`ENDED_BY_ZERO_BYTE`], [`ENDED_BY_MAX_BYTES`] or [`ENDED_BY_TABLE_END`].
+    pub end: u8,
 }
 
 /// The record of an area; all zero where there is none.

@@ -43,7 +43,7 @@ impl fmt::Display for Warning {
 
 macro_rules! codes {
     ($($(#[doc = $words:literal])* $name:ident = $number:literal $code:literal,)*) => {
-        /// What a warning says, numbered in the order of `WarningCode` of aclater/scarletbook-rs.
+        /// What a warning says, numbered in the order of `WarningCode` of aclater/scarletbook-rs, which has 1 to 18.
         #[derive(Clone, Copy, Debug, PartialEq, Eq, Hash, PartialOrd, Ord)]
         #[repr(u8)]
         pub enum WarningCode {
@@ -52,14 +52,14 @@ macro_rules! codes {
 
         impl WarningCode {
             /// Every code, by number.
-            pub const ALL: [WarningCode; 18] = [$(WarningCode::$name),*];
+            pub const ALL: [WarningCode; 19] = [$(WarningCode::$name),*];
 
-            /// Its number, 1 to 18.
+            /// Its number, 1 to 19.
             pub fn number(self) -> u8 {
                 self as u8
             }
 
-            /// Its name in a catalogue, as aclater/scarletbook-rs has it.
+            /// Its name in a catalogue, as aclater/scarletbook-rs has those of 1 to 18.
             pub fn code(self) -> &'static str {
                 match self { $(WarningCode::$name => $code,)* }
             }
@@ -109,4 +109,6 @@ codes! {
     MasterTocCopiesDiffer = 17 "master-toc-copies-differ",
     /// its sample frequency code is not that of DSD64
     SampleFrequencyUnknown = 18 "sample-frequency-unknown",
+    /// has a text that no zero byte ends
+    TrackTextUnterminated = 19 "track-text-unterminated",
 }
