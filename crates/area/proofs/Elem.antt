@@ -35,7 +35,7 @@ abbrev pub track-type : Struct R ty val
 track-type = struct-laws T.the-type T.Laws.the-laws T.Laws.the-plain ty (λ v t. t .0) val (λ x. refl)
 
 abbrev pub size : ℕ
-size = 108
+size = 164
 
 pub times-fits : {n : ℕ} → Room R n → (i : ℕ) → i < n → i * size < 2 ^ 64
 times-fits room i h = omega (arith, room .1)

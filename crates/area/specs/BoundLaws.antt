@@ -22,7 +22,7 @@ use Rattle.area.specs.Timecode.{timecodeAt, frameNumber}
 use Rattle.area.specs.Track.{trackOf}
 use Rattle.area.specs.TrackLaws.{track-within}
 use Rattle.area.specs.Units.{lsnAt}
-use Rattle.area.specs.Warning.{sampleFrequencyUnknown}
+use Rattle.area.specs.Warning.{trackTextUnterminated}
 use Rattle.area.specs.WarningLaws.{tabulate-member, TableCode, table-codes, table-warnings-of}
 use Rattle.area.specs.declared.area.Area.{Area}
 use Rattle.area.specs.declared.locale.Locale.{Locale}
@@ -46,7 +46,7 @@ pub record SmallTrack (t : Track) : Type 0 where
   pub its-frames : t .times .«start_frame» .0 + t .times .«duration_frames» .0 ≤ maxFrames
 
 pub record SmallWarning (slot : ℕ) (w : Warning) : Type 0 where
-  pub its-code : w .code ≤ sampleFrequencyUnknown
+  pub its-code : w .code ≤ trackTextUnterminated
   pub its-slot : w .slot ≡ slot
   pub its-track : w .track ≤ maxTracks
 
@@ -100,9 +100,10 @@ module _ (table : List ℕ) (bytes : (i : ℕ) → getD table i 0 < 256) where
         let found = tabulate-member count (λ k. read k .track) (subst (List·Memᴰ t) (map-tabulate (λ (r : TrackRead). r .track) count read) m) in
         subst SmallTrack (sym (found .1 .1)) (small-track (found .0) (found .1 .0))
 
-    code-few : (n : ℕ) → TableCode n → n ≤ sampleFrequencyUnknown
+    code-few : (n : ℕ) → TableCode n → n ≤ trackTextUnterminated
     code-few n (inl e) = omega (arith, e .1)
-    code-few n (inr e) = omega (arith, e)
+    code-few n (inr (inl e)) = omega (arith, e)
+    code-few n (inr (inr e)) = omega (arith, e)
 
     -- what is given of a table that is not skipped
     module _ (kept : skipOf table ≡ 0) where

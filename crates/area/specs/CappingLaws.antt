@@ -21,6 +21,7 @@ use Rattle.area.specs.Lone.{isShort, loneSlot, loneSectors, Lone, reads,
 use Rattle.area.specs.LoneLaws.{by-case, enough-records, enough-words}
 use Rattle.area.specs.Skip.{skipOf}
 use Rattle.area.specs.StandsLaws.{Shifted, shifted-then, shifted-front, shifted-behind, shifted-map, shifted-flat}
+use Rattle.area.specs.TextPlaces.{anyUnterminated}
 use Rattle.area.specs.Table.{Table, areaOf, ofSlot, dsd64, ofTrack, frequencyWarnings, trackWarnings, readsOf, tracksOf, tracksWarnings, yieldOf, tableOf, areaGiven, tracksGiven, warningsOf, yields}
 use Rattle.area.specs.TableLaws.{by-skip, area-of, address-tracks, address-warnings, address-playtime, tracks-count, tracks-most, warnings-most, head-skips, area-yields, addressed-track-count, addressed-playtime}
 use Rattle.area.specs.Tabulate.{tabulate}
@@ -28,7 +29,7 @@ use Rattle.area.specs.TabulateLaws.{map-tabulate}
 use Rattle.area.specs.Timecode.{frameNumber}
 use Rattle.area.specs.Track.{cappedTimes, timesOf, trackOf}
 use Rattle.area.specs.TrackLaws.{track-within, track-warned, track-number, text-not-past}
-use Rattle.area.specs.Warning.{wordOf, trackPastPlaytime, trackLsnOutsideArea, sampleFrequencyUnknown}
+use Rattle.area.specs.Warning.{wordOf, trackPastPlaytime, trackLsnOutsideArea, sampleFrequencyUnknown, trackTextUnterminated}
 use Rattle.area.specs.WarningLaws.{word-value, in-when, track-warnings-of, tabulate-member, table-warnings-of}
 use Rattle.area.specs.declared.area.Area.{Area}
 use Rattle.area.specs.declared.chain.Chain.{Chain}
@@ -104,11 +105,13 @@ module _ (table : List ℕ) (area : Area) (chain : Chain) (slot : ℕ) where
   -- by all warnings of the track
   shifted-track : (i : ℕ) → Shifted (fourteen i) (whenTrue (read i .«past_playtime») (fourteen i)) (fourteen i) (trackWarnings slot (read i))
   unfolding trackWarnings ofTrack pastPlaytime
-  shifted-track i = shifted-then (shifted-front (fourteen i) past outside not-outside) (shifted-front (fourteen i) (past ++ outside) text not-text)
+  shifted-track i =
+      shifted-then (shifted-front (fourteen i) past outside (no-fourteen (read i .«outside_area») trackLsnOutsideArea (λ e. omega (arith, e))))
+      (shifted-then (shifted-front (fourteen i) (past ++ outside) text
+      (no-fourteen (not (eqb (read i .«text_warning») 0)) (read i .«text_warning») (text-not-past table area chain i)))
+      (shifted-front (fourteen i) (past ++ outside ++ text) unterminated
+      (no-fourteen (anyUnterminated (read i .track .text)) trackTextUnterminated (λ e. omega (arith, e)))))
     where
-      code : Warning → ℕ
-      code w = w .code
-
       past : List Warning
       past = whenTrue (read i .«past_playtime») (ofTrack trackPastPlaytime slot (read i))
 
@@ -118,14 +121,12 @@ module _ (table : List ℕ) (area : Area) (chain : Chain) (slot : ℕ) where
       text : List Warning
       text = whenTrue (not (eqb (read i .«text_warning») 0)) (ofTrack (read i .«text_warning») slot (read i))
 
-      not-outside : List·Memᴰ (fourteen i) outside → ⊥
-      not-outside m =
-          let e = ap code (in-when (fourteen i) (read i .«outside_area») (ofTrack trackLsnOutsideArea slot (read i)) m) in omega (arith, e)
+      unterminated : List Warning
+      unterminated = whenTrue (anyUnterminated (read i .track .text)) (ofTrack trackTextUnterminated slot (read i))
 
-      not-text : List·Memᴰ (fourteen i) text → ⊥
-      not-text m =
-          text-not-past table area chain i
-          (sym (ap code (in-when (fourteen i) (not (eqb (read i .«text_warning») 0)) (ofTrack (read i .«text_warning») slot (read i)) m)))
+      -- it is no warning of another code
+      no-fourteen : (t : Bool) (code : ℕ) → (code ≡ trackPastPlaytime → ⊥) → List·Memᴰ (fourteen i) (whenTrue t (ofTrack code slot (read i))) → ⊥
+      no-fourteen t code other m = other (sym (ap (λ (w : Warning). w .code) (in-when (fourteen i) t (ofTrack code slot (read i)) m)))
 
   -- by those of so many tracks, and of their table
   module _ (n i : ℕ) (below : i < n) where

@@ -107,6 +107,6 @@ drawn-end (suc n) c h = go (drawOf c .found) refl (drawn-end n (movedOn c))
     go false e later = stays-ended (suc n) c e
 
 -- the texts that a track's walk keeps are those of the items drawn
-pub drawn-kept : (n : ℕ) (c : TextCursor) → c .left ≤ n → itemsKept (now (c .table)) (c .next) (c .left) ≡ keepAll (drawnBy n c) noItems
+pub drawn-kept : (n : ℕ) (c : TextCursor) → c .left ≤ n → itemsKept (now (c .table)) (c .next) (c .left) ≡ keepAll (now (c .table)) (drawnBy n c) noItems
 unfolding itemsKept
-drawn-kept n c h = ap (λ (items : List Item). keepAll items noItems) (sym (drawn-all n c h))
+drawn-kept n c h = ap (λ (items : List Item). keepAll (now (c .table)) items noItems) (sym (drawn-all n c h))

@@ -93,7 +93,7 @@ module _ {A B : Type 0} where
           ∙ sym (sets-past (map f ys) (sets old at (map f xs)) there (past there refl n (omega arith))) ∙ joined
 
 -- what lent elements are and their count, after new ones are written from a count on
-abbrev Pushed : {A B : Type 0} → (B → A) → List A → ℕ → List B → List A → ℕ → Type 0
+abbrev pub Pushed : {A B : Type 0} → (B → A) → List A → ℕ → List B → List A → ℕ → Type 0
 Pushed f old count new after n = (after ≡ sets old count (map f new)) × (n ≡ counted old count new)
 
 -- two runs, the second where the first is counted to, are one

@@ -20,11 +20,11 @@ use Rattle.sectors.specs.Number.{beAt}
 use Rattle.sectors.specs.NumberLaws.{be-ext}
 use Rattle.sectors.specs.Signature.{signedAt}
 use Rattle.sectors.specs.SignatureLaws.{signed-here, signed-is}
-use Rattle.text.specs.String.{nonzero, stringAt}
-use Rattle.text.specs.StringLaws.{ne-nonzero, string-length, string-end, string-nonzero, string-zero, string-present}
-use Rattle.area.specs.Area.{twoChannelSignature, multichannelSignature, twoChannel, multichannel, kindOf, areaTexts, areaTextsOffset, isAbsent, textPlaceAt, areaTextsAt, recordOf, addressed}
+use Rattle.text.specs.String.{nonzero, stringAt, endOf}
+use Rattle.text.specs.StringLaws.{ne-nonzero, string-present, string-no-longer, zeros-same-end}
+use Rattle.area.specs.Area.{twoChannelSignature, multichannelSignature, twoChannel, multichannel, kindOf, areaTexts, areaTextsOffset, areaTextsAt, recordOf, addressed}
 use Rattle.area.specs.Chain.{trackTextSignature, isrcGenreSignature, accessSignature, trackList1Signature, trackList2Signature, structureAt, sectorsOf, firstKept, noted, walkFrom, nothingKept, chainOf}
-use Rattle.area.specs.Items.{itemAt, nonzeroAt, nextItem, itemsFrom}
+use Rattle.area.specs.Items.{Item, itemAt, nonzeroAt, nextItem, itemsFrom}
 use Rattle.area.specs.Lent.{whenTrue}
 use Rattle.area.specs.Limits.{maxTracks}
 use Rattle.area.specs.Locale.{maxLocales, localesOffset, codeAt, localeAt, localeOr, localesAt}
@@ -34,13 +34,15 @@ use Rattle.area.specs.Tabulate.{tabulate}
 use Rattle.area.specs.TabulateLaws.{tabulate-ext}
 use Rattle.area.specs.Timecode.{timecodeAt}
 use Rattle.area.specs.Track.{storedTimes, genreAt, isrcField, isrcGenreAt, trackOf}
-use Rattle.area.specs.TrackText.{itemsKept, textOffset, textAt, textBehind, trackTextOf}
+use Rattle.area.specs.TextPlaces.{isAbsent, textPlace, textPlaceAt}
+use Rattle.area.specs.TrackText.{noItems, keep, keepAll, itemsKept, textOffset, textAt, textBehind, trackTextOf}
 use Rattle.area.specs.Units.{lsnAt}
 use Rattle.area.specs.declared.area.Area.{Area}
 use Rattle.area.specs.declared.chain.Chain.{Chain}
 use Rattle.area.specs.declared.chain.Structure.{Structure}
 use Rattle.area.specs.declared.chain.Structure.the-variants.{TrackText, IsrcGenre, Access, TrackList1, TrackList2, Other}
 use Rattle.area.specs.declared.track.TrackRead.{TrackRead}
+use Rattle.area.specs.declared.track_text.ItemsKept.{ItemsKept}
 use Rattle.area.specs.declared.warning.Warning.{Warning}
 
 -- two tables that differ in their first eight bytes at most
@@ -138,15 +140,8 @@ turned s t same = record { same-length = sym (same .same-length); same-bytes = �
 
 -- no string behind the signature is shorter in one of them
 no-shorter : (s t : List ℕ) → SameBehind s t → (at : ℕ) → 8 ≤ at → length (stringAt t at) ≤ length (stringAt s at)
-no-shorter s t same at behind = go (ltb (length (stringAt s at)) (length (stringAt t at))) refl
-  where
-    go : (b : Bool) → ltb (length (stringAt s at)) (length (stringAt t at)) ≡ b → length (stringAt t at) ≤ length (stringAt s at)
-    go false e = ltb-false (length (stringAt s at)) (length (stringAt t at)) e
-    go true e =
-        let shorter = ltb-true (length (stringAt s at)) (length (stringAt t at)) e in
-        let few = string-length t at in let within = string-end t at in let long = same .same-length in
-        let ends = string-zero s at (omega arith) (omega arith) in
-        absurd (string-nonzero t at (length (stringAt s at)) shorter (sym (same .same-bytes (at + length (stringAt s at)) (omega arith)) ∙ ends))
+no-shorter s t same at behind =
+    string-no-longer s t at (same .same-length) (λ i from z. sym (same .same-bytes i (omega arith)) ∙ z)
 
 -- a place at which no structure begins, or one behind the signature
 abbrev Behind : ℕ → Type 0
@@ -246,12 +241,27 @@ module _ (s t : List ℕ) (same : SameBehind s t) where
         items left (nextItem t at) (omega arith),
       )
 
-  track-text : (block i : ℕ) → Behind block → trackTextOf s block i ≡ trackTextOf t block i
+  -- if every string ends in the same way, the same is kept of the items
+  abbrev SameEnds : Type 0
+  SameEnds = (place : ℕ) → endOf s place ≡ endOf t place
+
+  kept : SameEnds → (all : List Item) (before : ItemsKept) → keepAll s all before ≡ keepAll t all before
+  unfolding keepAll keep textPlace
+  kept ends [] before = refl
+  kept ends (item ∷ all) before = rw (ends (item .place)) (kept ends all (keep t item before))
+
+  track-text : SameEnds → (block i : ℕ) → Behind block → trackTextOf s block i ≡ trackTextOf t block i
   unfolding trackTextOf textBehind textOffset textAt itemsKept
-  track-text block i (inl z) = rw (eq-eqb block 0 z)
-  track-text block i (inr h) =
-      let offset = beAt t (block + 8 + 2 * i) 2 in
-      rw (number (block + 8 + 2 * i) 2 (omega arith), same .same-length, number (block + offset) 1 (omega arith), items (beAt t (block + offset) 1) (block + offset + 4) (omega arith))
+  track-text ends block i (inl z) = rw (eq-eqb block 0 z)
+  track-text ends block i (inr h) =
+      let offset = beAt t (block + 8 + 2 * i) 2 in let count = beAt t (block + offset) 1 in let at = block + offset + 4 in
+      rw (
+        number (block + 8 + 2 * i) 2 (omega arith),
+        same .same-length,
+        number (block + offset) 1 (omega arith),
+        items count at (omega arith),
+        kept ends (itemsFrom t at count) noItems,
+      )
 
   -- ---- and the tracks
 
@@ -268,11 +278,11 @@ module _ (s t : List ℕ) (same : SameBehind s t) where
   isrc-genre igl i =
       rw (section (igl + 8 + 12 * i) 12 (omega arith), number (igl + 3072 + 4 * i) 1 (omega arith), number (igl + 3072 + 4 * i + 3) 1 (omega arith))
 
-  track : (a b : Area) (c : Chain) (i : ℕ)
+  track : SameEnds → (a b : Area) (c : Chain) (i : ℕ)
       → a .playtime ≡ b .playtime → a .«audio_start_lsn» ≡ b .«audio_start_lsn» → a .«audio_end_lsn» ≡ b .«audio_end_lsn»
       → Behind (c .ttxt) → trackOf s a c i ≡ trackOf t b c i
   unfolding trackOf lsnAt
-  track a b c i play start end behind =
+  track ends a b c i play start end behind =
       rw (
         number (c .trl1 + 8 + 4 * i) 4 (omega arith),
         number (c .trl1 + 1028 + 4 * i) 4 (omega arith),
@@ -283,22 +293,22 @@ module _ (s t : List ℕ) (same : SameBehind s t) where
         number (c .trl2 + 8 + 4 * i + 3) 1 (omega arith),
         number (c .trl2 + 1028 + 4 * i + 3) 1 (omega arith),
         isrc-genre (c .igl) i,
-        track-text (c .ttxt) i behind,
+        track-text ends (c .ttxt) i behind,
       )
 
   lsn-at : (at : ℕ) → 8 ≤ at → lsnAt s at ≡ lsnAt t at
   unfolding lsnAt
   lsn-at at h = rw (number at 4 h)
 
-  reads : (slot sectors slot′ sectors′ : ℕ)
+  reads : SameEnds → (slot sectors slot′ sectors′ : ℕ)
       → readsOf s (recordOf s slot sectors) (chainOf s) ≡ readsOf t (recordOf t slot′ sectors′) (chainOf t)
   unfolding readsOf recordOf
-  reads slot sectors slot′ sectors′ =
+  reads ends slot sectors slot′ sectors′ =
       let a = recordOf s slot sectors in let b = recordOf t slot′ sectors′ in
       ap (λ (count : ℕ). tabulate (min count maxTracks) (trackOf s a (chainOf s))) (number 69 1 (omega arith))
       ∙ ap (λ (c : Chain). tabulate (min (beAt t 69 1) maxTracks) (trackOf s a c)) chain
       ∙ tabulate-ext (min (beAt t 69 1) maxTracks) (trackOf s a (chainOf t)) (trackOf t b (chainOf t))
-      (λ k h. track a b (chainOf t) k (timecode 64 (omega arith)) (lsn-at 72 (omega arith)) (lsn-at 76 (omega arith)) (text-behind t))
+      (λ k h. track ends a b (chainOf t) k (timecode 64 (omega arith)) (lsn-at 72 (omega arith)) (lsn-at 76 (omega arith)) (text-behind t))
 
   -- ---- and the locales
 
@@ -329,10 +339,14 @@ module _ (s t : List ℕ) (same : SameBehind s t) where
             ne-nonzero (getD s offset 0) (letter s own offset before) ∙ sym (ne-nonzero (getD t offset 0) (letter t other offset before))
         go false e = ap nonzero (same .same-bytes offset (ltb-false offset 8 e))
 
+    same-ends : SameEnds
+    same-ends place = zeros-same-end s t place (same .same-length) begins
+
     text-place : (at : ℕ) → 8 ≤ at → textPlaceAt s at ≡ textPlaceAt t at
-    unfolding textPlaceAt isAbsent
+    unfolding textPlaceAt isAbsent textPlace
     text-place at h =
-        rw (number at 2 h, string-present s (beAt t at 2), string-present t (beAt t at 2), begins (beAt t at 2))
+        let offset = beAt t at 2 in
+        rw (number at 2 h, string-present s offset, string-present t offset, begins offset, same-ends offset)
 
     texts : areaTextsAt s ≡ areaTextsAt t
     unfolding areaTextsAt
@@ -374,7 +388,7 @@ module _ (s t : List ℕ) (same : SameBehind s t) where
           ≡ map bareWarning (frequencyWarnings slot′ (recordOf t slot′ sectors′) ++ tracksWarnings slot′ (readsOf t (recordOf t slot′ sectors′) (chainOf t)))
       bare-warnings =
           bare-all slot (recordOf s slot sectors) (readsOf s (recordOf s slot sectors) (chainOf s))
-          ∙ (rw (frequency, reads slot sectors slot′ sectors′))
+          ∙ (rw (frequency, reads same-ends slot sectors slot′ sectors′))
           ∙ sym (bare-all slot′ (recordOf t slot′ sectors′) (readsOf t (recordOf t slot′ sectors′) (chainOf t)))
 
       -- what is the same of both if they yield, and if they are skipped, is the same
@@ -400,7 +414,7 @@ module _ (s t : List ℕ) (same : SameBehind s t) where
       -- the tracks are the same
       pub either-tracks : tracksGiven (areaOf s slot lsn sectors) ≡ tracksGiven (areaOf t slot′ lsn′ sectors′)
       unfolding tracksGiven withAddress yieldOf
-      either-tracks = both-ways tracksGiven (ap tracksOf (reads slot sectors slot′ sectors′)) refl
+      either-tracks = both-ways tracksGiven (ap tracksOf (reads same-ends slot sectors slot′ sectors′)) refl
 
       -- the warnings are the same but for the slot
       pub either-warnings : map bareWarning (warningsOf (areaOf s slot lsn sectors)) ≡ map bareWarning (warningsOf (areaOf t slot′ lsn′ sectors′))

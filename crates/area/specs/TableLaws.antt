@@ -21,7 +21,8 @@ use Rattle.area.specs.Area.{trackCountOffset, recordOf, addressed, noAre
 use Rattle.area.specs.Skip.{skipOf}
 use Rattle.area.specs.Track.{trackOf, noTrack}
 use Rattle.area.specs.TrackLaws.{track-number}
-use Rattle.area.specs.Warning.{trackPastPlaytime, trackLsnOutsideArea, sampleFrequencyUnknown}
+use Rattle.area.specs.Warning.{trackPastPlaytime, trackLsnOutsideArea, sampleFrequencyUnknown, trackTextUnterminated}
+use Rattle.area.specs.TextPlaces.{anyUnterminated}
 use Rattle.area.specs.Table.{Table, skips, yields, ofSlot, dsd64, ofTrack, frequencyWarnings, trackWarnings, readsOf, tracksOf, tracksWarnings, yieldOf, tableOf, withAddress, areaOf, areaGiven, tracksGiven, warningsOf, headOf, noHead, headWarnings, trackCount, readIn, readsIn, tracksIn, warningsIn}
 use Rattle.area.specs.declared.area.Area.{Area}
 use Rattle.area.specs.declared.chain.Chain.{Chain}
@@ -43,16 +44,19 @@ head-warnings-few slot head = go (eqb (head .skip) 0)
     go true = when-few (not (eqb (head .area .«sample_frequency_code») dsd64)) (ofSlot sampleFrequencyUnknown slot)
     go false = omega arith
 
-three-few : {A : Type 0} (a b c : Bool) (x y z : A) → length (whenTrue a x ++ whenTrue b y ++ whenTrue c z) ≤ maxTrackWarnings
-three-few a b c x y z =
+four-few : {A : Type 0} (a b c d : Bool) (x y z w : A)
+    → length (whenTrue a x ++ whenTrue b y ++ whenTrue c z ++ whenTrue d w) ≤ maxTrackWarnings
+four-few a b c d x y z w =
+    let l = length-append (whenTrue a x ++ whenTrue b y ++ whenTrue c z) (whenTrue d w) in
     let m = length-append (whenTrue a x ++ whenTrue b y) (whenTrue c z) in let n = length-append (whenTrue a x) (whenTrue b y) in
-    let p = when-few a x in let q = when-few b y in let r = when-few c z in omega arith
+    let p = when-few a x in let q = when-few b y in let r = when-few c z in let s = when-few d w in omega arith
 
 pub track-warnings-few : (slot : ℕ) (read : TrackRead) → length (trackWarnings slot read) ≤ maxTrackWarnings
 unfolding trackWarnings
 track-warnings-few slot read =
-    three-few (read .«past_playtime») (read .«outside_area») (not (eqb (read .«text_warning») 0))
+    four-few (read .«past_playtime») (read .«outside_area») (not (eqb (read .«text_warning») 0)) (anyUnterminated (read .track .text))
     (ofTrack trackPastPlaytime slot read) (ofTrack trackLsnOutsideArea slot read) (ofTrack (read .«text_warning») slot read)
+    (ofTrack trackTextUnterminated slot read)
 
 -- lists of so many entries at most, one after another
 pub flat-few : {A B : Type 0} (f : A → List B) (n : ℕ) (xs : List A) → ((x : A) → List·Memᴰ x xs → length (f x) ≤ n) → length (flatMap f xs) ≤ length xs * n

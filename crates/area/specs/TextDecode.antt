@@ -12,6 +12,7 @@ use Rattle.text.specs.declared.decode.DecodeAnswer.{DecodeAnswer}
 use Rattle.area.specs.Limits.{maxTracks, tableSize, tableBytes}
 use Rattle.area.specs.Area.{areaTexts}
 use Rattle.area.specs.TrackText.{trackTexts}
+use Rattle.area.specs.TextPlaces.{noTextPlace}
 use Rattle.area.specs.Track.{noTrack}
 use Rattle.area.specs.declared.area.Area.{Area}
 use Rattle.area.specs.declared.text_places.TextPlace.{TextPlace}
@@ -40,7 +41,7 @@ textAt lent area place = placedString (tableBytes (area .origin .«toc_sectors»
 
 -- where an item's text stands
 unfoldable pub placeOf : List TextPlace → ℕ → ℕ
-placeOf places item = getD places item (record { place = 0 }) .place
+placeOf places item = getD places item noTextPlace .place
 
 unfoldable pub textOf : List ℕ → Area → ℕ → Text
 textOf lent area place = found (textAt lent area place) (area .«text_charset»)

@@ -17,6 +17,7 @@ use Rattle.text.specs.declared.decode.DecodeAnswer.{DecodeAnswer}
 use Rattle.area.specs.Limits.{maxTableBytes, maxTracks, tableSize, tableBytes}
 use Rattle.area.specs.Area.{areaTexts}
 use Rattle.area.specs.TrackText.{trackTexts, noPlaces}
+use Rattle.area.specs.TextPlaces.{noTextPlace}
 use Rattle.area.specs.Track.{noTrack}
 use Rattle.area.specs.TextDecode.{Text, refused, found, tableShort, noSuchArea, noSuchTrack, textAt, placeOf, textOf, areaTextIn, trackTextIn, textAnswer, textPage}
 use Rattle.area.specs.declared.area.Area.{Area}
@@ -44,7 +45,7 @@ past-absent lent area place h =
     placed-past (tableBytes (area .origin .«toc_sectors») lent) place (omega (arith, part-size 0 (tableSize (area .origin .«toc_sectors»)) lent))
 
 -- ---- what stands past the end of a list of tracks has no text
-no-place : (n item : ℕ) → placeOf (replicate n (record { place = 0 })) item ≡ 0
+no-place : (n item : ℕ) → placeOf (replicate n noTextPlace) item ≡ 0
 unfolding placeOf
 no-place zero item = refl
 no-place (suc n) zero = refl

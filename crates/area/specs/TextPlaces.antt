@@ -11,7 +11,7 @@ use Rattle.area.specs.declared.text_places.TextPlace.{TextPlace}
 abbrev pub noEnd : ℕ
 noEnd = 0
 
-unfoldable pub noTextPlace : TextPlace
+abbrev pub noTextPlace : TextPlace
 noTextPlace = record { place = 0; end = noEnd }
 
 -- "Every present text of a record that is a stored string passes that on.": how the string at its place ended

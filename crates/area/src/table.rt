@@ -123,6 +123,7 @@ fn push_track(words: &mut [u32], count: usize, slot: u8, read: TrackRead) -> usi
 {
     let track = read.track;
     let number = track.number;
+    let texts = track.text;
     let past = Warning {
         code: TRACK_PAST_PLAYTIME,
         slot,
@@ -146,7 +147,7 @@ fn push_track(words: &mut [u32], count: usize, slot: u8, read: TrackRead) -> usi
     let n = push(words, count, read.past_playtime, past);
     let m = push(words, n, read.outside_area, outside);
     let k = push(words, m, read.text_warning != 0, text);
-    push(words, k, any_unterminated(track.text), unterminated)
+    push(words, k, any_unterminated(texts), unterminated)
 }
 
 // The head of no table.

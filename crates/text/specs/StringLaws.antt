@@ -182,9 +182,10 @@ module _ (table : List ℕ) (place : ℕ) where
   abbrev n : ℕ
   n = length (stringAt table place)
 
-  pub end-of : endOf table place ≡ endBy size place n
+  -- it is told by the length of the string's bytes
+  pub end-of : (bytes : List ℕ) → bytes ≡ stringAt table place → endBy size place (length bytes) ≡ endOf table place
   unfolding endOf
-  end-of = refl
+  end-of bytes e = ap (λ (s : List ℕ). endBy size place (length s)) e
 
   -- what the end is said to be, by the three cases
   by-end : (P : ℕ → Type 0) → (n ≡ maxStringBytes → P endedByMaxBytes) → ((n ≡ maxStringBytes → ⊥) → place + n < size → P endedByZeroByte)
@@ -192,7 +193,7 @@ module _ (table : List ℕ) (place : ℕ) where
   by-end P max zero-byte table-end = go (ℕ-discrete n maxStringBytes) (ltb (place + n) size) refl
     where
       said : {end : ℕ} → endBy size place n ≡ end → P end → P (endOf table place)
-      said e = subst P (sym (end-of ∙ e))
+      said e = subst P (sym e ∙ end-of (stringAt table place) refl)
 
       go : Dec (n ≡ maxStringBytes) → (t : Bool) → ltb (place + n) size ≡ t → P (endOf table place)
       go (yes e) t f = said (end-max size place n e) (max e)
@@ -219,10 +220,10 @@ module _ (table : List ℕ) (place : ℕ) where
 
 -- ---- of two tables of the same length
 
--- a string is no longer than that of a table whose zero bytes are zero here too
-no-longer : (s t : List ℕ) (place : ℕ) → length s ≡ length t → ((i : ℕ) → getD s i 0 ≡ 0 → getD t i 0 ≡ 0)
+-- a string is no longer than that of a table whose zero bytes, from its place on, are zero here too
+pub string-no-longer : (s t : List ℕ) (place : ℕ) → length s ≡ length t → ((i : ℕ) → place ≤ i → getD s i 0 ≡ 0 → getD t i 0 ≡ 0)
     → length (stringAt t place) ≤ length (stringAt s place)
-no-longer s t place same zeros = go (ltb n m) refl
+string-no-longer s t place same zeros = go (ltb n m) refl
   where
     n : ℕ
     n = length (stringAt s place)
@@ -234,14 +235,14 @@ no-longer s t place same zeros = go (ltb n m) refl
     go true e =
         let longer = ltb-true n m e in
         absurd (string-nonzero t place n longer
-        (zeros (place + n) (string-zero s place (omega (arith, string-length t place)) (omega (arith, string-end t place)))))
+        (zeros (place + n) (omega arith) (string-zero s place (omega (arith, string-length t place)) (omega (arith, string-end t place)))))
     go false e = ltb-false n m e
 
 -- where the zero bytes of both stand at the same places, their strings end in the same way
 pub zeros-same-end : (s t : List ℕ) (place : ℕ) → length s ≡ length t → ((i : ℕ) → nonzero (getD s i 0) ≡ nonzero (getD t i 0))
     → endOf s place ≡ endOf t place
 zeros-same-end s t place same zeros =
-    let shorter = no-longer s t place same (λ i z. nonzero-false (getD t i 0) (sym (zeros i) ∙ eq-nonzero (getD s i 0) z)) in
-    let longer = no-longer t s place (sym same) (λ i z. nonzero-false (getD s i 0) (zeros i ∙ eq-nonzero (getD t i 0) z)) in
+    let shorter = string-no-longer s t place same (λ i from z. nonzero-false (getD t i 0) (sym (zeros i) ∙ eq-nonzero (getD s i 0) z)) in
+    let longer = string-no-longer t s place (sym same) (λ i from z. nonzero-false (getD s i 0) (zeros i ∙ eq-nonzero (getD t i 0) z)) in
     let length-same : length (stringAt s place) ≡ length (stringAt t place) = omega arith in
-    end-of s place ∙ (λ i. endBy (same i) place (length-same i)) ∙ sym (end-of t place)
+    sym (end-of s place (stringAt s place) refl) ∙ (λ i. endBy (same i) place (length-same i)) ∙ end-of t place (stringAt t place) refl

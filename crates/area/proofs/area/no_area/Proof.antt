@@ -32,7 +32,7 @@ returns c = λ i. record {
   «locale_count» = 0;
   locales = replicate 10 (c .no-locale .ensures i);
   «text_charset» = 0;
-  text = replicate 4 (record { place = 0 });
+  text = replicate 4 (record { place = 0; end = 0 });
 }
 
 pub no-area-spec : {M : Type 1} → statement M

@@ -6,6 +6,7 @@ use native.Mathlib.Omega.{arith}
 use lib.ListN.{length, length-map, List·getD-eq-default}
 use borrow.Author.Needs.{needs}
 use Rattle.area.specs.TextDecode.{placeOf}
+use Rattle.area.specs.TextPlaces.{noTextPlace}
 use Rattle.area.specs.declared.text_places.TextPlace.{TextPlace}
 use Rattle.area.proofs.text_places.TextPlace as P
 use Rattle.area.proofs.track.text_place.Statement.{statement}
@@ -18,7 +19,7 @@ as-fields places n e = sym (length-map places (P.the-field .into)) ∙ e
 returns : tie.Need-returns
 unfolding placeOf
 returns c = let places = c .before .args .track .text in let full : length places ≡ 14 = search as-fields in
-    sym (ap (λ (text : TextPlace). text .place) (List·getD-eq-default places (record { place = 0 }) (omega (arith, full, c .if1 .taken))))
+    sym (ap (λ (text : TextPlace). text .place) (List·getD-eq-default places noTextPlace (omega (arith, full, c .if1 .taken))))
 
 mul-text : tie.Need-mul-text
 mul-text c = search needs

@@ -13,7 +13,7 @@ use borrow.Author.Needs.{needs}
 use borrow.Author.Tests.{lt-ltb, le-ltb, ltb-true, ltb-false}
 use Rattle.sectors.specs.NumberLaws.{be-byte}
 use Rattle.text.specs.String.{stringAt}
-use Rattle.text.specs.StringLaws.{string-end}
+use Rattle.text.specs.StringLaws.{string-end, end-of}
 use Rattle.area.specs.TestLaws.{cond-same}
 use Rattle.area.specs.Items.{Item, itemAt, nonzeroAt, nextItem, itemsFrom}
 use Rattle.area.specs.ItemLaws.{nonzero-more, nonzero-found, nonzero-end, items-none, items-short, items-first}
@@ -50,38 +50,38 @@ module _ (table : List ℕ) (at left : ℕ) where
 -- what is kept in all
 module _ {all : ItemsKept} where
   -- the same items are left
-  same-left : (before : ItemsKept) {xs ys : List Item} → xs ≡ ys → keepAll xs before ≡ all → keepAll ys before ≡ all
-  same-left before e leads = ap (λ (items : List Item). keepAll items before) (sym e) ∙ leads
+  same-left : (table : List ℕ) (before : ItemsKept) {xs ys : List Item} → xs ≡ ys → keepAll table xs before ≡ all → keepAll table ys before ≡ all
+  same-left table before e leads = ap (λ (items : List Item). keepAll table items before) (sym e) ∙ leads
 
   -- none are left
-  all-kept : (before : ItemsKept) {xs : List Item} → xs ≡ [] → keepAll xs before ≡ all → before ≡ all
+  all-kept : (table : List ℕ) (before : ItemsKept) {xs : List Item} → xs ≡ [] → keepAll table xs before ≡ all → before ≡ all
   unfolding keepAll
-  all-kept before e leads = ap (λ (items : List Item). keepAll items before) (sym e) ∙ leads
+  all-kept table before e leads = ap (λ (items : List Item). keepAll table items before) (sym e) ∙ leads
 
   -- a turn, as the call finds the item's string and the arms meet with what is kept of it
   turn : (table : List ℕ) (at left : ℕ) (before after : ItemsKept) (string : List ℕ) → at + 2 ≤ length table → 0 < left
-      → string ≡ stringAt table (at + 2) → after ≡ keep (record { kind = getD table at 0; place = at + 2; len = length string }) before
-      → keepAll (itemsFrom table at left) before ≡ all
-      → keepAll (searched table (at + 2 + length string) (left - 1)) after ≡ all
+      → string ≡ stringAt table (at + 2) → after ≡ keep table (record { kind = getD table at 0; place = at + 2; len = length string }) before
+      → keepAll table (itemsFrom table at left) before ≡ all
+      → keepAll table (searched table (at + 2 + length string) (left - 1)) after ≡ all
   unfolding keepAll searched nextItem itemAt
   turn table at left before after string two some is kept leads =
       let one-more : left ≡ suc (left - 1) = omega arith in
-      let the-item : after ≡ keep (itemAt table at) before =
-      kept ∙ (λ i. keep (record { kind = sym (be-byte table at) i; place = at + 2; len = length (is i) }) before) in
-      (λ i. keepAll (searched table (at + 2 + length (is i)) (left - 1)) (the-item i))
-      ∙ ap (λ (items : List Item). keepAll items before) (sym (items-first table at (left - 1) two) ∙ ap (itemsFrom table at) (sym one-more))
+      let the-item : after ≡ keep table (itemAt table at) before =
+      kept ∙ (λ i. keep table (record { kind = sym (be-byte table at) i; place = at + 2; len = length (is i) }) before) in
+      (λ i. keepAll table (searched table (at + 2 + length (is i)) (left - 1)) (the-item i))
+      ∙ ap (λ (items : List Item). keepAll table items before) (sym (items-first table at (left - 1) two) ∙ ap (itemsFrom table at) (sym one-more))
       ∙ leads
 
 abbrev Inv-loop : tie.InvT-loop
 Inv-loop table place count places unknown q₀ left at len index q =
-    keepAll (searched table q left) (record { places = places; unknown = unknown }) ≡ itemsKept table place count
+    keepAll table (searched table q left) (record { places = places; unknown = unknown }) ≡ itemsKept table place count
 
 abbrev μ-loop : tie.MeasureT-loop
 μ-loop table place count places unknown q₀ left at len index q = length table - q
 
 abbrev Inv-items : tie.InvT-items
 Inv-items table place count places₀ unknown₀ q₀ left₀ places unknown q left =
-    keepAll (itemsFrom table q left) (record { places = places; unknown = unknown }) ≡ itemsKept table place count
+    keepAll table (itemsFrom table q left) (record { places = places; unknown = unknown }) ≡ itemsKept table place count
 
 abbrev μ-items : tie.MeasureT-items
 μ-items table place count places₀ unknown₀ q₀ left₀ places unknown q left = left
@@ -93,7 +93,7 @@ of-known-type c = full-and-known (length (c .before .before .before .string-byte
 -- where the arms meet, the turn's item is kept over those before it
 turned : (c : tie.Joined3 Inv-loop μ-loop Inv-items μ-items)
     → let k = c .before in let l = k .before .before .before .before .before .before in let a = l .before .before .args in
-    keepAll (searched (now (a .table)) (l .items .q + 2 + length (k .before .before .string-bytes .result .now)) (l .items .left - 1))
+    keepAll (now (a .table)) (searched (now (a .table)) (l .items .q + 2 + length (k .before .before .string-bytes .result .now)) (l .items .left - 1))
     (record { places = c .if3 .places; unknown = c .if3 .unknown })
     ≡ itemsKept (now (a .table)) (a .place) (a .count)
 turned c =
@@ -101,12 +101,14 @@ turned c =
     let table = now (l .before .before .args .table) in let s = k .before .before .string-bytes in
     let item : Item = record { kind = getD table (l .items .q) 0; place = l .items .q + 2; len = length (s .result .now) } in
     let before : ItemsKept = record { places = l .items .places; unknown = l .items .unknown } in
-    let kept : record { places = c .if3 .places; unknown = c .if3 .unknown } ≡ keep item before =
-    ⊎-elim (λ w. (λ i. record { places = w .1 i; unknown = w .2 i }) ∙ keep-known item before (k .item-index .ensures) (w .0 .taken))
+    let kept : record { places = c .if3 .places; unknown = c .if3 .unknown } ≡ keep table item before =
+    ⊎-elim
+    (λ w. (λ i. record { places = w .2 i; unknown = w .3 i })
+    ∙ keep-known table item before (k .item-index .ensures) (w .0 .taken) (w .1 .ensures ∙ end-of table _ _ (s .ensures .0)))
     (⊎-elim
     (λ w. (λ i. record { places = w .2 i; unknown = w .3 i })
-    ∙ keep-unknown item before (k .item-index .ensures) (w .0 .left) (w .1 .taken))
-    (λ w. (λ i. record { places = w .2 i; unknown = w .3 i }) ∙ keep-empty item before (w .1 .left)))
+    ∙ keep-unknown table item before (k .item-index .ensures) (w .0 .left) (w .1 .taken))
+    (λ w. (λ i. record { places = w .2 i; unknown = w .3 i }) ∙ keep-empty table item before (w .1 .left)))
     (c .if3 .came) in
     turn table (l .items .q) (l .items .left) before _ (s .result .now) (omega (arith, ltb-false)) (omega arith) (s .ensures .0) kept
     (l .items .inv)
@@ -133,11 +135,14 @@ item-index-requires c κs = search needs
 cast-t23 : tie.Need-cast-t23 Inv-loop μ-loop Inv-items μ-items
 cast-t23 c = omega (arith, ltb-false)
 
+end-by-requires : tie.Need-end-by-requires Inv-loop μ-loop Inv-items μ-items
+end-by-requires c κs = search needs
+
 mul-places : tie.Need-mul-places Inv-loop μ-loop Inv-items μ-items
-mul-places c = let h = of-known-type c in search needs
+mul-places c = let h = of-known-type (c .before) in search needs
 
 array-set-from-places : tie.Need-array-set-from-places Inv-loop μ-loop Inv-items μ-items
-array-set-from-places c = of-known-type c
+array-set-from-places c = of-known-type (c .before)
 
 add-q : tie.Need-add-q Inv-loop μ-loop Inv-items μ-items
 add-q c =
@@ -165,7 +170,7 @@ items-again : tie.Need-items-again Inv-loop μ-loop Inv-items μ-items
 items-again c =
     let l = c .before .before .before in
     let a = l .before .before .before .before .before .before .before .before .before .before .before .args in
-    same-left _ (search-found (now (a .table)) (l .loop .q) _ (omega arith) (c .if6 .taken)) (l .loop .inv)
+    same-left _ _ (search-found (now (a .table)) (l .loop .q) _ (omega arith) (c .if6 .taken)) (l .loop .inv)
 
 add-q-2 : tie.Need-add-q-2 Inv-loop μ-loop Inv-items μ-items
 add-q-2 c = search needs
@@ -177,23 +182,23 @@ loop-again : tie.Need-loop-again Inv-loop μ-loop Inv-items μ-items
 loop-again c =
     let l = c .before .before .before in
     let a = l .before .before .before .before .before .before .before .before .before .before .before .args in
-    same-left _ (search-more (now (a .table)) (l .loop .q) _ (omega arith) (c .if6 .left)) (l .loop .inv)
+    same-left _ _ (search-more (now (a .table)) (l .loop .q) _ (omega arith) (c .if6 .left)) (l .loop .inv)
 
 returns : tie.Need-returns Inv-loop μ-loop Inv-items μ-items
-returns c = all-kept _ (none-left _ _ _ (omega arith)) (c .before .items .inv)
+returns c = all-kept _ _ (none-left _ _ _ (omega arith)) (c .before .items .inv)
 
 returns-2 : tie.Need-returns-2 Inv-loop μ-loop Inv-items μ-items
 returns-2 c =
     let l = c .before .before in
     let short : length (now (l .before .before .args .table)) < l .items .q + 2 =
     ⊎-elim (λ w. omega arith) (λ w. omega (arith, ltb-true)) (c .if1 .came) in
-    all-kept _ (items-short _ _ _ short) (l .items .inv)
+    all-kept _ _ (items-short _ _ _ short) (l .items .inv)
 
 returns-3 : tie.Need-returns-3 Inv-loop μ-loop Inv-items μ-items
-returns-3 c = all-kept _ (search-none _ _ _ (c .if5 .taken)) (turned (c .before))
+returns-3 c = all-kept _ _ (search-none _ _ _ (c .if5 .taken)) (turned (c .before))
 
 returns-4 : tie.Need-returns-4 Inv-loop μ-loop Inv-items μ-items
-returns-4 c = all-kept _ (search-end _ _ _ (omega arith)) (c .before .loop .inv)
+returns-4 c = all-kept _ _ (search-end _ _ _ (omega arith)) (c .before .loop .inv)
 
 pub items-kept-spec : {M : Type 1} → statement M
 items-kept-spec =
@@ -210,6 +215,7 @@ items-kept-spec =
     shared-slice-read-item-index
     item-index-requires
     cast-t23
+    end-by-requires
     mul-places
     array-set-from-places
     add-q
