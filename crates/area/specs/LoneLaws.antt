@@ -58,7 +58,7 @@ pub lone-head : (table : List ℕ) → loneHead table ≡ headOf table loneSlot 
 unfolding loneHead
 lone-head table = refl
 
--- 255 records and 766 words are enough
+-- 255 records and 1,021 words are enough
 pub lone-room : isShort maxTracks tableWords ≡ false
 unfolding isShort
 lone-room = refl

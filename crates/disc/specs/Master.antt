@@ -12,7 +12,7 @@ use Rattle.sectors.specs.Signature.{signedAt}
 use Rattle.text.specs.Fixed.{fieldSize, fixedTextOf, fixedBytesOf}
 use Rattle.area.specs.Tabulate.{tabulate}
 use Rattle.area.specs.Units.{lsnAt}
-use Rattle.area.specs.Area.{textPlaceAt}
+use Rattle.area.specs.TextPlaces.{noTextPlace, textPlaceAt}
 use Rattle.area.specs.Locale.{localeOr, noLocale}
 use Rattle.area.specs.Track.{genreAt}
 use Rattle.area.specs.declared.locale.Locale.{Locale}
@@ -119,7 +119,7 @@ discTextsOffset = 16
 unfoldable pub discTextsAt : List ℕ → List TextPlace
 discTextsAt table =
     cond (hasText table) (tabulate discTexts (λ item. textPlaceAt (textSector table) (discTextsOffset + 2 * item)))
-    (replicate discTexts (record { place = 0 }))
+    (replicate discTexts noTextPlace)
 
 -- "The manufacturer is a flag, its 2,040 bytes standing in the master region."
 unfoldable pub manufacturerFlag : List ℕ → ℕ
@@ -182,6 +182,6 @@ noMaster = record {
   «locale_count» = 0;
   locales = replicate maxLocales noLocale;
   «text_charset» = 0;
-  text = replicate discTexts (record { place = 0 });
+  text = replicate discTexts noTextPlace;
   manufacturer = 0;
 }

@@ -13,7 +13,7 @@ use Rattle.area.specs.declared.track.Track.{Track}
 use Rattle.disc.specs.Slot.{Slot, twoChannel, multichannel, regionAt, tracksAt}
 use Rattle.disc.specs.declared.answer.DiscAnswer.{DiscAnswer}
 
--- "Disc reading borrows the image, 544,768 work bytes, 510 track records, 1,537 warning words": what is lent but for the image
+-- "Disc reading borrows the image, 544,768 work bytes, 510 track records", and warning words: what is lent but for the image
 pub record Memory : Type 0 where
   pub work : List ℕ
   pub tracks : List Track

@@ -10,6 +10,7 @@ use Rattle.sectors.specs.Refusal.{shortBuffer, noSuchEntry}
 use Rattle.text.specs.String.{placedString}
 use Rattle.area.specs.Limits.{maxTracks}
 use Rattle.area.specs.TextDecode.{Text, refused, found, placeOf, areaTextIn, trackTextIn}
+use Rattle.area.specs.TextPlaces.{noTextPlace}
 use Rattle.area.specs.Track.{noTrack}
 use Rattle.area.specs.declared.area.Area.{Area}
 use Rattle.area.specs.declared.track.Track.{Track}
@@ -35,7 +36,7 @@ discTextAt work place = placedString (discTextSector work) place
 
 -- where an item's text stands
 unfoldable pub discPlace : MasterToc → ℕ → ℕ
-discPlace master item = getD (master .text) item (record { place = 0 }) .place
+discPlace master item = getD (master .text) item noTextPlace .place
 
 -- "decoding 2, 8, 9, 10": 2, then 8 with "item not in `ALL`"
 unfoldable pub discTextIn : List ℕ → MasterToc → ℕ → Text

@@ -1,4 +1,4 @@
--- How many warnings a disc gives at most: 3 of the disc and 767 of each slot, so that 1,537 words hold them all. Assumes nothing.
+-- How many warnings a disc gives at most: 3 of the disc and 1,022 of each slot, so that 2,047 words hold them all. Assumes nothing.
 use Prim.Native.Nat.{ℕ, _+_, _*_, _≤_}
 use native.Mathlib.Omega.{arith}
 use mathlib.Core.Path.{_≡_, refl, ap, _∙_}
@@ -111,6 +111,6 @@ warnings-fit source table =
       slot-warnings-most source multichannel (pointerOf table multichannel),
     )
 
--- "1,537 warning words", "766 words": the numbers that they are made of give these
-pub words-asked : (warningWords ≡ 1537) × (tableWords ≡ 766)
+-- "Warning buffers become 2,047 and 1,021 words." (02, item 5): the numbers that they are made of give these
+pub words-asked : (warningWords ≡ 2047) × (tableWords ≡ 1021)
 words-asked = (refl, refl)

@@ -116,7 +116,8 @@ own-not other above differs n (inr e) q = differs (sym q ∙ e)
 -- ---- none has code 16
 table-not : (n : ℕ) → TableCode n → n ≢ audioSectorMalformed
 table-not n (inl h) q = let low = h .0 in let high = h .1 in omega arith
-table-not n (inr e) q = omega arith
+table-not n (inr (inl e)) q = omega arith
+table-not n (inr (inr e)) q = omega arith
 
 pub never-malformed : (source : Source) (table : List ℕ) (w : Warning) → List·Memᴰ w (warningsOf source table) → w .code ≢ audioSectorMalformed
 never-malformed =

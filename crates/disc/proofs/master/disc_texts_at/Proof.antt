@@ -3,7 +3,7 @@ use mathlib.Core.Path.{sym, ap, _∙_}
 use mathlib.Core.List.{List, [], _∷_}
 use Prim.Native.Nat.{ℕ, _+_, _*_}
 use borrow.Author.Tests.{not-true, not-false}
-use Rattle.area.specs.Area.{textPlaceAt}
+use Rattle.area.specs.TextPlaces.{textPlaceAt}
 use Rattle.area.specs.Tabulate.{tabulate}
 use Rattle.disc.proofs.Spelled.{tabulate-spelled}
 use Rattle.disc.specs.Master.{textSector, discTexts, discTextsOffset, discTextsAt}

@@ -31,7 +31,7 @@ returns c = λ i. record {
   «locale_count» = 0;
   locales = replicate 8 (c .no-locale .ensures i);
   «text_charset» = 0;
-  text = replicate 16 (record { place = 0 });
+  text = replicate 16 (record { place = 0; end = 0 });
   manufacturer = 0;
 }
 
