@@ -98,12 +98,12 @@ module _ {A : Type 0} where
   taken (suc n) [] m = m
   taken (suc n) (y ∷ ys) m = ⊎-elim (λ e. List·Memᴰ·head e) (λ later. List·Memᴰ·tail (taken n ys later)) (List·Memᴰ·cases-cons m)
 
-  section-length : (word : List ℕ) (line : A → List ℕ) (k : ℕ) (xs : List A) → length xs < 1000 → ((x : A) → List·Memᴰ x xs → length (line x) ≤ k)
-      → length (section word line xs) ≤ length word + 5 + length xs * k
+  section-length : (word : List ℕ) (line : A → List ℕ) (k : ℕ) (xs : List A) → length xs < 10000 → ((x : A) → List·Memᴰ x xs → length (line x) ≤ k)
+      → length (section word line xs) ≤ length word + 6 + length xs * k
   unfolding section tens
   section-length word line k xs few each =
       rw (length-append (wordLine word (length xs)) (flatMap line xs))
-      (omega (arith, word-length word (length xs), digits 2 (length xs) few, flat-few line k xs each))
+      (omega (arith, word-length word (length xs), digits 3 (length xs) few, flat-few line k xs each))
 
 sections-length : (area : Area) (tracks : List Track) (warnings : List Warning) → Bounds loneSlot area tracks warnings → length (sectionsOf area tracks warnings) ≤ listingPage
 unfolding sectionsOf localesOf

@@ -28,7 +28,7 @@ use sectors::sector::SECTOR_SIZE;
 pub const MAX_LISTED: usize = 65536;
 
 // The bytes of a page that has room for every listing: three lines of counts, 10 of at most 12 bytes for the locales, 255 of 42 for the tracks
-// and 766 of 9 for the warnings. The programs lend such a page, so that what they print is the whole listing.
+// and 1,021 of 9 for the warnings. The programs lend such a page, so that what they print is the whole listing.
 pub const LISTING_PAGE: usize = 32768;
 
 // Writes the line of a refusal.

@@ -1,15 +1,19 @@
--- 01's worked table of three sectors ("Header, fingerprint, listing"), and its listing; the same with two tracks, and their times. Assumes nothing.
+-- 01's worked table of three sectors ("Header, fingerprint, listing"), and its listing; the same with two tracks, and their times; the
+-- same with texts, and how they ended. Assumes nothing.
 use Prim.Native.Nat.{ℕ, _*_, _/_, _%_, _^_}
 use Prim.Native.Char.{code}
 use Prim.Native.String.{String}
 use Prim.Native.String as Text
-use mathlib.Core.List.{List, [], _∷_}
+use mathlib.Core.List.{List, [], _∷_, _++_}
 use lib.ListN.{replicate}
 use Rattle.sectors.specs.Fill.{fill}
 use Rattle.sectors.specs.Format.{sectorSize}
+use Rattle.text.specs.String.{endedByZeroByte, endedByMaxBytes, endedByTableEnd}
+use Rattle.area.specs.declared.text_places.TextPlace.{TextPlace}
 use Rattle.area.specs.declared.timecode.Frame.{Frame}
 use Rattle.area.specs.declared.timecode.Timecode.{Timecode}
 use Rattle.area.specs.declared.track.TrackTimes.{TrackTimes}
+use Rattle.area.specs.declared.warning.Warning.{Warning}
 
 -- the bytes of an ASCII text
 unfoldable pub ascii : String → List ℕ
@@ -69,3 +73,35 @@ storedTableTimes =
       «stored_duration» = record { minutes = 0; seconds = 0; frames = 5 };
     }
     ∷ []
+
+-- a two-byte number
+unfoldable pub twoBytes : ℕ → List ℕ
+twoBytes n = n / 2 ^ 8 ∷ n % 256 ∷ []
+
+-- The worked table with texts, of nine sectors. From 10,239 on stand 4,096 bytes and a zero byte, and then, from 14,336 on, 4,096 bytes up to the end.
+unfoldable pub endsTable : List ℕ
+endsTable =
+    -- an area text at 200, one at 14,336, one past the table's end, and none
+    fill 144 (twoBytes 200 ++ twoBytes 14336 ++ twoBytes 18433 ++ twoBytes 0)
+    (fill 200 (ascii "Area") exampleTable)
+    -- at 6,144: the text of track 1 stands 4,089 behind, and has two items
+    ++ ascii "SACDTTxt" ++ twoBytes 4089 ++ replicate 4079 0
+    ++ (2 ∷ 0 ∷ 0 ∷ 0 ∷ [])
+    ++ (1 ∷ 0 ∷ replicate 4096 65 ++ (0 ∷ []))
+    ++ (2 ∷ replicate 4095 65)
+
+-- "A stored string shall also say how it ended: zero byte, 4,096 bytes, or end of table. Where 4,096 bytes reach just to the end of the table or to a
+-- zero byte, it says 4,096 bytes." (02, item 5): that at 14,336, to the end
+unfoldable pub endsAreaTexts : List TextPlace
+endsAreaTexts =
+    record { place = 200; end = endedByZeroByte } ∷ record { place = 14336; end = endedByMaxBytes }
+    ∷ record { place = 0; end = 0 } ∷ record { place = 0; end = 0 } ∷ []
+
+-- .. that at 10,239, to a zero byte; and that of the second item, whose ignored byte stands at 14,337
+unfoldable pub endsTrackTexts : List TextPlace
+endsTrackTexts =
+    record { place = 10239; end = endedByMaxBytes } ∷ record { place = 14338; end = endedByTableEnd } ∷ replicate 12 (record { place = 0; end = 0 })
+
+-- "A track with such a text not ended by a zero byte gets warning 19, once, after 12 or 13." (the worked table's track has 14)
+unfoldable pub endsWarnings : List Warning
+endsWarnings = record { code = 14; slot = 1; track = 1 } ∷ record { code = 19; slot = 1; track = 1 } ∷ []

@@ -15,10 +15,10 @@ unfolding loneAnswer loneOf isOddTable isShort
 odd-before-short = refl
 
 -- with one record less, and with one word less
-pub records-before-silent : loneAnswer (loneOf zeros 254 766) .refusal ≡ 2
+pub records-before-silent : loneAnswer (loneOf zeros 254 1021) .refusal ≡ 2
 unfolding loneAnswer loneOf isOddTable isShort
 records-before-silent = refl
 
-pub words-before-silent : loneAnswer (loneOf zeros 255 765) .refusal ≡ 2
+pub words-before-silent : loneAnswer (loneOf zeros 255 1020) .refusal ≡ 2
 unfolding loneAnswer loneOf isOddTable isShort
 words-before-silent = refl
