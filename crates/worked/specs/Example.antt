@@ -1,5 +1,5 @@
--- 01's worked table of three sectors ("Header, fingerprint, listing"), and its listing; the same with two tracks, and their times; the
--- same with texts, and how they ended. Assumes nothing.
+-- 01's worked table of three sectors ("Header, fingerprint, listing"), and its listing; the same with two tracks, and their times; both with texts,
+-- and how they ended. Assumes nothing.
 use Prim.Native.Nat.{ℕ, _*_, _/_, _%_, _^_}
 use Prim.Native.Char.{code}
 use Prim.Native.String.{String}
@@ -8,7 +8,6 @@ use mathlib.Core.List.{List, [], _∷_, _++_}
 use lib.ListN.{replicate}
 use Rattle.sectors.specs.Fill.{fill}
 use Rattle.sectors.specs.Format.{sectorSize}
-use Rattle.text.specs.String.{endedByZeroByte, endedByMaxBytes, endedByTableEnd}
 use Rattle.area.specs.declared.text_places.TextPlace.{TextPlace}
 use Rattle.area.specs.declared.timecode.Frame.{Frame}
 use Rattle.area.specs.declared.timecode.Timecode.{Timecode}
@@ -84,24 +83,58 @@ endsTable =
     -- an area text at 200, one at 14,336, one past the table's end, and none
     fill 144 (twoBytes 200 ++ twoBytes 14336 ++ twoBytes 18433 ++ twoBytes 0)
     (fill 200 (ascii "Area") exampleTable)
-    -- at 6,144: the text of track 1 stands 4,089 behind, and has two items
-    ++ ascii "SACDTTxt" ++ twoBytes 4089 ++ replicate 4079 0
-    ++ (2 ∷ 0 ∷ 0 ∷ 0 ∷ [])
+    -- the block at 6,144: the text of track 1 stands 4,085 behind
+    ++ ascii "SACDTTxt" ++ twoBytes 4085 ++ replicate 4075 0
+    -- its three items: of the unknown type 8, a title, a performer
+    ++ (3 ∷ 0 ∷ 0 ∷ 0 ∷ [])
+    ++ (8 ∷ 0 ∷ 65 ∷ 0 ∷ [])
     ++ (1 ∷ 0 ∷ replicate 4096 65 ++ (0 ∷ []))
     ++ (2 ∷ replicate 4095 65)
 
 -- "A stored string shall also say how it ended: zero byte, 4,096 bytes, or end of table. Where 4,096 bytes reach just to the end of the table or to a
--- zero byte, it says 4,096 bytes." (02, item 5): that at 14,336, to the end
+-- zero byte, it says 4,096 bytes." (02, item 5): the second, to the end
 unfoldable pub endsAreaTexts : List TextPlace
 endsAreaTexts =
-    record { place = 200; end = endedByZeroByte } ∷ record { place = 14336; end = endedByMaxBytes }
-    ∷ record { place = 0; end = 0 } ∷ record { place = 0; end = 0 } ∷ []
+    record { place = 200; end = 1 }
+    ∷ record { place = 14336; end = 2 }
+    ∷ record { place = 0; end = 0 }
+    ∷ record { place = 0; end = 0 }
+    ∷ []
 
--- .. that at 10,239, to a zero byte; and that of the second item, whose ignored byte stands at 14,337
-unfoldable pub endsTrackTexts : List TextPlace
-endsTrackTexts =
-    record { place = 10239; end = endedByMaxBytes } ∷ record { place = 14338; end = endedByTableEnd } ∷ replicate 12 (record { place = 0; end = 0 })
+-- .. the first, to a zero byte
+unfoldable pub endsTrackTexts : List (List TextPlace)
+endsTrackTexts = (record { place = 10239; end = 2 } ∷ record { place = 14338; end = 3 } ∷ replicate 12 (record { place = 0; end = 0 })) ∷ []
 
--- "A track with such a text not ended by a zero byte gets warning 19, once, after 12 or 13." (the worked table's track has 14)
+-- "A track with such a text not ended by a zero byte gets warning 19, once, after 12 or 13."
 unfoldable pub endsWarnings : List Warning
-endsWarnings = record { code = 14; slot = 1; track = 1 } ∷ record { code = 19; slot = 1; track = 1 } ∷ []
+endsWarnings =
+    record { code = 14; slot = 1; track = 1 }
+    ∷ record { code = 13; slot = 1; track = 1 }
+    ∷ record { code = 19; slot = 1; track = 1 }
+    ∷ []
+
+-- The table of two tracks with texts, of six sectors. Track 1 has a title of 4,096 bytes, and another that replaces it; track 2 has an item of the unknown
+-- type 8 up to the end.
+unfoldable pub replacedTable : List ℕ
+replacedTable =
+    storedTable
+    ++ ascii "SACDTTxt" ++ twoBytes 16 ++ twoBytes 4122 ++ replicate 4 0
+    ++ (2 ∷ 0 ∷ 0 ∷ 0 ∷ [])
+    ++ (1 ∷ 0 ∷ replicate 4096 65)
+    ++ (1 ∷ 0 ∷ 65 ∷ 0 ∷ [])
+    ++ (1 ∷ 0 ∷ 0 ∷ 0 ∷ [])
+    ++ (8 ∷ replicate 2017 65)
+
+-- "such a text" is one of its record: neither track has one
+unfoldable pub replacedTrackTexts : List (List TextPlace)
+replacedTrackTexts =
+    (record { place = 10264; end = 1 } ∷ replicate 13 (record { place = 0; end = 0 }))
+    ∷ replicate 14 (record { place = 0; end = 0 })
+    ∷ []
+
+unfoldable pub replacedWarnings : List Warning
+replacedWarnings =
+    record { code = 14; slot = 1; track = 1 }
+    ∷ record { code = 14; slot = 1; track = 2 }
+    ∷ record { code = 13; slot = 1; track = 2 }
+    ∷ []
