@@ -105,13 +105,13 @@ endsAreaTexts =
 unfoldable pub endsTrackTexts : List (List TextPlace)
 endsTrackTexts = (record { place = 10239; end = 2 } ∷ record { place = 14338; end = 3 } ∷ replicate 12 (record { place = 0; end = 0 })) ∷ []
 
+-- a warning of a lone table's track
+unfoldable pub loneWarning : ℕ → ℕ → Warning
+loneWarning code track = record { code = code; slot = 1; track = track }
+
 -- "A track with such a text not ended by a zero byte gets warning 19, once, after 12 or 13."
 unfoldable pub endsWarnings : List Warning
-endsWarnings =
-    record { code = 14; slot = 1; track = 1 }
-    ∷ record { code = 13; slot = 1; track = 1 }
-    ∷ record { code = 19; slot = 1; track = 1 }
-    ∷ []
+endsWarnings = loneWarning 14 1 ∷ loneWarning 13 1 ∷ loneWarning 19 1 ∷ []
 
 -- The table of two tracks with texts, of six sectors. Track 1 has a title of 4,096 bytes, and another that replaces it; track 2 has an item of the unknown
 -- type 8 up to the end.
@@ -133,8 +133,4 @@ replacedTrackTexts =
     ∷ []
 
 unfoldable pub replacedWarnings : List Warning
-replacedWarnings =
-    record { code = 14; slot = 1; track = 1 }
-    ∷ record { code = 14; slot = 1; track = 2 }
-    ∷ record { code = 13; slot = 1; track = 2 }
-    ∷ []
+replacedWarnings = loneWarning 14 1 ∷ loneWarning 14 2 ∷ loneWarning 13 2 ∷ []

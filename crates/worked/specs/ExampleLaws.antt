@@ -29,7 +29,7 @@ use Rattle.area.specs.declared.warning.Warning.{Warning}
 use Rattle.listing_text.specs.Decimal.{digit, digitsWithin, decimal}
 use Rattle.listing_text.specs.Line.{nextField, fieldsOf, lineOf, wordLine}
 use Rattle.listing_text.specs.Listing.{section, trackLine, warningLine, localesOf, sectionsOf, loneListing, listingOf}
-use Rattle.worked.specs.Example.{ascii, fourBytes, exampleTable, exampleListing, storedTable, storedTableTimes, twoBytes, endsTable, endsAreaTexts, endsTrackTexts, endsWarnings, replacedTable, replacedTrackTexts, replacedWarnings}
+use Rattle.worked.specs.Example.{ascii, fourBytes, exampleTable, exampleListing, storedTable, storedTableTimes, twoBytes, endsTable, endsAreaTexts, endsTrackTexts, loneWarning, endsWarnings, replacedTable, replacedTrackTexts, replacedWarnings}
 
 pub example-listed : listingOf exampleTable ≡ exampleListing
 unfolding
@@ -54,7 +54,7 @@ textsOf t = (areaGiven t .text, (map (λ (track : Track). track .text) (tracksGi
 pub example-ends : (textsOf (tableOf endsTable loneSlot 9) ≡ (endsAreaTexts, (endsTrackTexts, endsWarnings)))
     × (textsOf (tableOf replacedTable loneSlot 6) ≡ (replicate areaTexts noTextPlace, (replacedTrackTexts, replacedWarnings)))
 unfolding
-    ascii fourBytes twoBytes exampleTable storedTable endsTable endsAreaTexts endsTrackTexts endsWarnings replacedTable replacedTrackTexts replacedWarnings areaGiven tracksGiven warningsOf tableOf yieldOf tracksWarnings tracksOf readsOf
+    ascii fourBytes twoBytes exampleTable storedTable endsTable endsAreaTexts endsTrackTexts loneWarning endsWarnings replacedTable replacedTrackTexts replacedWarnings areaGiven tracksGiven warningsOf tableOf yieldOf tracksWarnings tracksOf readsOf
     trackWarnings ofTrack anyUnterminated isUnterminated frequencyWarnings whenTrue skipOf skipBy listMissing isMalformed isReversed chainOf nothingKept walkFrom noted
     firstKept sectorsOf structureAt recordOf kindOf areaTextsAt textPlaceAt textPlace isAbsent trackOf isOutside timesOf cappedTimes storedTimes trackTextOf textBehind textOffset
     textAt textOf itemsKept keepAll keep itemIndex noItems noPlaces itemsFrom itemAt nextItem nonzeroAt isZero endOf endBy stringAt untilZero nonzero present takeWhile capOf
