@@ -85,9 +85,9 @@ enum {
 /* ---- How a stored string ended; 0 for an absent text ---- */
 
 enum {
-    SCARLETBOOK_ENDED_BY_ZERO_BYTE = 1, /* before the first zero byte */
-    SCARLETBOOK_ENDED_BY_MAX_BYTES = 2, /* after 4,096 bytes, whatever stands behind them */
-    SCARLETBOOK_ENDED_BY_TABLE_END = 3  /* at the end of its table */
+    SCARLETBOOK_ENDED_BY_ZERO_BYTE = 1, /* before a zero byte */
+    SCARLETBOOK_ENDED_BY_MAX_BYTES = 2, /* after 4,096 bytes, the most there are, whatever stands behind them */
+    SCARLETBOOK_ENDED_BY_TABLE_END = 3  /* at the end of its table; a text of the disc, at that of sector 1 */
 };
 
 /* ---- Refusals ---- */
@@ -158,7 +158,7 @@ enum {
     SCARLETBOOK_AUDIO_SECTOR_MALFORMED = 16, /* never comes from this library */
     SCARLETBOOK_MASTER_TOC_COPIES_DIFFER = 17,
     SCARLETBOOK_SAMPLE_FREQUENCY_UNKNOWN = 18,
-    SCARLETBOOK_TRACK_TEXT_UNTERMINATED = 19
+    SCARLETBOOK_TRACK_TEXT_UNTERMINATED = 19 /* once for a track, the last of its warnings */
 };
 
 /* A warning word is code times 65,536 + slot times 256 + track. */
@@ -232,7 +232,7 @@ static inline const char *scarletbook_warning_words(uint8_t code)
         "a malformed audio sector",
         "a copy of the master table differs",
         "its sample frequency code is not that of DSD64",
-        "has a text that no zero byte ends",
+        "has a text not ended by a zero byte",
     };
     return code <= SCARLETBOOK_TRACK_TEXT_UNTERMINATED ? words[code] : "";
 }
@@ -361,7 +361,7 @@ typedef struct scarletbook_track_times {
 /* The place of a text's string in its table, and how the string ended; both 0 for an absent text. */
 typedef struct scarletbook_text_place {
     uint32_t place;
-    uint8_t end; /* SCARLETBOOK_ENDED_BY_ZERO_BYTE, _MAX_BYTES or _TABLE_END */
+    uint8_t end; /* SCARLETBOOK_ENDED_BY_ZERO_BYTE, .._BY_MAX_BYTES or .._BY_TABLE_END */
 } scarletbook_text_place;
 
 /* A track; an absent ISRC or genre is zero. */
@@ -604,8 +604,8 @@ scarletbook_table_head_record scarletbook_table_head(const uint8_t *table, size_
 
 /*
  * Draws the next item of a track's text, from a place of the table on, of so many that are left, empty and
- * unknown ones included. Each draw goes on with `next` and `left` of the one before. Never refused. How the
- * string of an item ended is what scarletbook_string_end says of its place, 2 behind the `next` of the call.
+ * unknown ones included. Each draw goes on with `next` and `left` of the one before. How an item's string ended
+ * is what scarletbook_string_end says of its `place`. Never refused.
  */
 scarletbook_draw_answer scarletbook_draw_at(const uint8_t *table, size_t table_len, size_t next, size_t left);
 
@@ -694,8 +694,8 @@ uint32_t scarletbook_be32_at(const uint8_t *table, size_t table_len, size_t at);
 size_t scarletbook_string_length(const uint8_t *table, size_t table_len, size_t place);
 
 /*
- * How the string at a place ended: SCARLETBOOK_ENDED_BY_ZERO_BYTE, _MAX_BYTES or _TABLE_END. Where 4,096 bytes reach
- * just to a zero byte or to the table's end, it is _MAX_BYTES; at the table's end and past it, _TABLE_END.
+ * How the string at a place ended: SCARLETBOOK_ENDED_BY_MAX_BYTES if it has 4,096 bytes, whatever stands behind
+ * them, else .._BY_ZERO_BYTE or .._BY_TABLE_END. The latter at the table's end and past it too.
  */
 uint8_t scarletbook_string_end(const uint8_t *table, size_t table_len, size_t place);
 

@@ -1,6 +1,7 @@
 //! An area and its tracks, where a reading left them.
 
 use crate::calls;
+use crate::end::TextEnd;
 use crate::item::{AreaTextItem, TrackTextItem};
 use crate::record;
 use crate::refusal::Refusal;
@@ -107,6 +108,27 @@ impl<'a> Area<'a> {
         })
     }
 
+    /// How one of its texts ended, if there is one, also if its set is not held.
+    ///
+    /// ```
+    /// # mod small_disc { include!(concat!(env!("CARGO_MANIFEST_DIR"), "/examples/small_disc.rs")); }
+    /// # let mut table = small_disc::area_table(b"TWOCHTOC", 2, &[], 7);
+    /// # small_disc::put(&mut table, 144, &(7 * 2048 - 6u16).to_be_bytes());
+    /// # small_disc::put(&mut table, 7 * 2048 - 6, b"Studio");
+    /// use scarletbook::{AreaTextItem, Table, TextEnd};
+    ///
+    /// // In `table` is the table of an area whose description ends with its last byte.
+    /// let read = Table::read(&table)?;
+    /// let area = read.area().unwrap();
+    /// assert_eq!(area.text(AreaTextItem::Description)?.as_deref(), Some("Studio"));
+    /// assert_eq!(area.text_end(AreaTextItem::Description), Some(TextEnd::TableEnd));
+    /// assert_eq!(area.text_end(AreaTextItem::Copyright), None);
+    /// # Ok::<(), scarletbook::Refusal>(())
+    /// ```
+    pub fn text_end(&self, item: AreaTextItem) -> Option<TextEnd> {
+        self.record.text[item.index() as usize].end()
+    }
+
     /// All its texts that are there.
     pub fn texts(&self) -> impl Iterator<Item = (AreaTextItem, Result<String, Refusal>)> + use<'a> {
         let area = *self;
@@ -181,6 +203,28 @@ impl<'a> Track<'a> {
                 calls::decode_track_text(table, area, tracks, number, item, page)
             }
         })
+    }
+
+    /// How one of its texts ended, if there is one, also if its set is not held. A track with a text
+    /// that ended otherwise than by a zero byte has the warning
+    /// [`TrackTextUnterminated`](crate::WarningCode::TrackTextUnterminated), once.
+    ///
+    /// ```
+    /// # mod small_disc { include!(concat!(env!("CARGO_MANIFEST_DIR"), "/examples/small_disc.rs")); }
+    /// # let table = small_disc::area_table(b"TWOCHTOC", 2, &[b"Overture", &[b'a'; 5000]], 9);
+    /// use scarletbook::{Table, TextEnd, TrackTextItem};
+    ///
+    /// // In `table` is the table of an area; the title of its second track has 5,000 bytes.
+    /// let read = Table::read(&table)?;
+    /// let area = read.area().unwrap();
+    /// let ends = area.tracks().map(|track| track.text_end(TrackTextItem::Title));
+    /// assert!(ends.eq([Some(TextEnd::ZeroByte), Some(TextEnd::MaxBytes)]));
+    /// let warnings: Vec<_> = read.warnings().map(|warning| warning.to_string()).collect();
+    /// assert_eq!(warnings, ["area 1, track 2: has a text not ended by a zero byte"]);
+    /// # Ok::<(), scarletbook::Refusal>(())
+    /// ```
+    pub fn text_end(&self, item: TrackTextItem) -> Option<TextEnd> {
+        self.record.text[item.index() as usize].end()
     }
 
     /// All its texts that are there.

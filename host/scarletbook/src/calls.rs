@@ -289,10 +289,9 @@ pub fn string_length(table: &[u8], place: usize) -> usize {
     unsafe { scarletbook_string_length(table.as_ptr(), table.len(), place) }
 }
 
-/// How the string at `place` ended: [`ENDED_BY_ZERO_BYTE`](crate::record::ENDED_BY_ZERO_BYTE),
-/// [`ENDED_BY_MAX_BYTES`](crate::record::ENDED_BY_MAX_BYTES) where it has 4,096 bytes, whatever stands
-/// behind them, or [`ENDED_BY_TABLE_END`](crate::record::ENDED_BY_TABLE_END), at the table's end and
-/// past it too.
+/// How the string at `place` ended: [`ENDED_BY_MAX_BYTES`] if it has 4,096 bytes, whatever stands
+/// behind them, else [`ENDED_BY_ZERO_BYTE`] or [`ENDED_BY_TABLE_END`]. The latter at the table's end
+/// and past it too.
 #[inline]
 pub fn string_end(table: &[u8], place: usize) -> u8 {
     // SAFETY: the pointer and length are those of a slice.
@@ -345,8 +344,8 @@ pub fn language(code: [u8; 2]) -> LanguageCode {
 
 /// Reads a lone table, as slot 1 with address 0: its area's record, its tracks at the start of
 /// `tracks`, its warnings at the start of `words`. Refused, in this order: 7 for a table of 0
-/// bytes, over 262,144 or no multiple of 2,048; 2 for fewer than 255 tracks or 766 words; 6 when
-/// it yields no area. Only 6 changes anything: it has its warning.
+/// bytes, over 262,144 or no multiple of 2,048; 2 for fewer than 255 tracks or 1,021 words; 6
+/// when it yields no area. Only 6 changes anything: it has its warning.
 #[inline]
 pub fn read_table(table: &[u8], tracks: &mut [Track], words: &mut [u32]) -> TableAnswer {
     // SAFETY: pointers and lengths are those of slices; the two that are written overlap nothing.
@@ -409,7 +408,8 @@ pub fn decode_track_text(
 }
 
 /// Draws the item at `next` of a table, of so many that are `left`, empty and unknown ones
-/// included. Without one, `next` and `left` are as they were.
+/// included. Without one, `next` and `left` are as they were. How an item's string ended is what
+/// [`string_end`] says of its place.
 #[inline]
 pub fn draw_at(table: &[u8], next: usize, left: usize) -> DrawAnswer {
     // SAFETY: the pointer and length are those of a slice.
@@ -431,7 +431,7 @@ pub fn cap(start: Frame, duration: Frame, playtime: Frame) -> CapAnswer {
 /// Reads a disc image: its master record and its areas. The master table and each chosen table
 /// copy fill the start of their [`REGIONS`] of `work`, the tracks of each area the records from its
 /// slot's first on ([`FIRST_TRACKS`]), the warnings the start of `words`. Refused, in this order: 1
-/// for a foreign format; 2 for fewer than 544,768 bytes, 510 tracks or 1,537 words; 3 for fewer
+/// for a foreign format; 2 for fewer than 544,768 bytes, 510 tracks or 2,047 words; 3 for fewer
 /// than 520 whole sectors; 4 without `SACDMTOC` at LSN 510; 5 for a major version above 1; 6 when
 /// neither slot yields an area. Only 6 changes anything: it has the master record, the warnings and
 /// the table copies.

@@ -2,6 +2,7 @@
 
 use crate::area::{Area, Lent, decoded, present};
 use crate::calls;
+use crate::end::TextEnd;
 use crate::item::DiscTextItem;
 use crate::record::{self, REGIONS, SECTOR_SIZE, TRACK_RECORDS, WARNING_WORDS, WORK_BYTES};
 use crate::refusal::{Refusal, Refused};
@@ -13,7 +14,7 @@ use std::fmt;
 const MANUFACTURER_SECTOR: usize = 9;
 const MANUFACTURER_AT: usize = 8;
 
-/// The memory that a disc reading is lent: at least 544,768 work bytes, 510 track records and 1,537
+/// The memory that a disc reading is lent: at least 544,768 work bytes, 510 track records and 2,047
 /// warning words.
 #[derive(Debug)]
 pub struct Memory<'m> {
@@ -143,6 +144,22 @@ impl<'m> Disc<'m> {
     /// One of its texts, if there is one. Refused by 9 if its set is not held.
     pub fn text(&self, item: DiscTextItem) -> Result<Option<String>, Refusal> {
         decoded(|page| calls::decode_disc_text(&self.work, self.master(), item.index(), page))
+    }
+
+    /// How one of its texts ended, if there is one, also if its set is not held.
+    ///
+    /// ```
+    /// # mod small_disc { include!(concat!(env!("CARGO_MANIFEST_DIR"), "/examples/small_disc.rs")); }
+    /// # let image = small_disc::plain();
+    /// # let disc = scarletbook::Disc::read(0u32, &image)?;
+    /// use scarletbook::{DiscTextItem, TextEnd};
+    ///
+    /// assert_eq!(disc.text_end(DiscTextItem::AlbumTitle), Some(TextEnd::ZeroByte));
+    /// assert_eq!(disc.text_end(DiscTextItem::DiscTitle), None);
+    /// # Ok::<(), scarletbook::Refusal>(())
+    /// ```
+    pub fn text_end(&self, item: DiscTextItem) -> Option<TextEnd> {
+        self.master().text[item.index() as usize].end()
     }
 
     /// All its texts that are there.

@@ -31,6 +31,7 @@ mod area;
 #[allow(unsafe_code)]
 mod calls;
 mod disc;
+mod end;
 mod item;
 pub mod record;
 mod refusal;
@@ -41,6 +42,7 @@ mod warning;
 
 pub use area::{Area, Track};
 pub use disc::{Disc, Memory};
+pub use end::TextEnd;
 pub use item::{AreaTextItem, DiscTextItem, TrackTextItem};
 pub use refusal::{Refusal, Refused};
 pub use sector::{Header, SectorFormat, audit, digest, fingerprint, mend};

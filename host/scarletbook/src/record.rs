@@ -1,6 +1,7 @@
-//! The records of the library, laid out as in C, with the names of aclater/scarletbook-rs, the sizes of lent memory, and the
-//! verdicts on headers. Flags are bytes, 0 or 1.
+//! The records of the library, laid out as in C, with the names of aclater/scarletbook-rs, the sizes of lent memory, the
+//! verdicts on headers, and the ends of strings. Flags are bytes, 0 or 1.
 
+use crate::end::TextEnd;
 use std::fmt::{self, Write};
 
 /// The bytes of data in a sector.
@@ -43,9 +44,9 @@ pub const UNSOUND: u8 = 3;
 
 /// The end of a stored string that a zero byte ended.
 pub const ENDED_BY_ZERO_BYTE: u8 = 1;
-/// The end of one that was cut after 4,096 bytes, whatever stands behind them.
+/// The end of one that has 4,096 bytes, the most there are, whatever stands behind them.
 pub const ENDED_BY_MAX_BYTES: u8 = 2;
-/// The end of one that reached the end of its table.
+/// The end of one that the end of its table ended.
 pub const ENDED_BY_TABLE_END: u8 = 3;
 
 /// The answer of [`fingerprint`](crate::raw::fingerprint).
@@ -183,6 +184,13 @@ pub struct TextPlace {
     pub place: u32,
     /// [`ENDED_BY_ZERO_BYTE`], [`ENDED_BY_MAX_BYTES`] or [`ENDED_BY_TABLE_END`].
     pub end: u8,
+}
+
+impl TextPlace {
+    /// How the string ended; nothing for an absent text.
+    pub fn end(&self) -> Option<TextEnd> {
+        TextEnd::of_number(self.end)
+    }
 }
 
 /// The record of an area; all zero where there is none.

@@ -2,6 +2,7 @@
 
 use crate::area::{Area, Lent};
 use crate::calls;
+use crate::end::TextEnd;
 use crate::record::{self, MAX_TRACKS, TABLE_WORDS};
 use crate::refusal::{Refusal, Refused};
 use crate::warning::Warning;
@@ -46,8 +47,8 @@ impl<'m> Table<'m> {
         Table { answer, table, tracks: tracks.into(), words: words.into() }.checked()
     }
 
-    /// Reads a table into memory that is lent: refused by 2 with fewer than 255 track records or 766
-    /// warning words.
+    /// Reads a table into memory that is lent: refused by 2 with fewer than 255 track records or
+    /// 1,021 warning words.
     pub fn read_in(
         table: &'m [u8],
         tracks: &'m mut [record::Track],
@@ -83,22 +84,25 @@ impl<'m> Table<'m> {
     }
 }
 
-/// An item of a track's text: its type byte and its string, as stored.
+/// An item of a track's text: its type byte, its string, as stored, and how that ended.
 #[derive(Clone, Copy, Debug, PartialEq, Eq)]
 pub struct TextItem<'a> {
     pub kind: u8,
     pub bytes: &'a [u8],
+    pub end: TextEnd,
 }
 
 /// The items of a track's text, drawn one by one from a table, a place and a count of items, empty
 /// and unknown ones included.
 ///
 /// ```
-/// use scarletbook::Items;
+/// use scarletbook::{Items, TextEnd};
 ///
-/// let table = b"\x01\0Title\0\x02\0Performer\0";
-/// let items: Vec<_> = Items::new(table, 0, 2).map(|item| (item.kind, item.bytes)).collect();
-/// assert_eq!(items, [(1, &b"Title"[..]), (2, b"Performer")]);
+/// let table = b"\x01\0Title\0\x02\0Performer";
+/// let items: Vec<_> =
+///     Items::new(table, 0, 2).map(|item| (item.kind, item.bytes, item.end)).collect();
+/// let title = (1, &b"Title"[..], TextEnd::ZeroByte);
+/// assert_eq!(items, [title, (2, b"Performer", TextEnd::TableEnd)]);
 /// ```
 #[derive(Clone, Debug)]
 pub struct Items<'a> {
@@ -120,7 +124,11 @@ impl<'a> Iterator for Items<'a> {
     fn next(&mut self) -> Option<TextItem<'a>> {
         let drawn = calls::draw_at(self.table, self.next, self.left);
         (self.next, self.left) = (drawn.next, drawn.left);
+        if drawn.found == 0 {
+            return None;
+        }
         let bytes = self.table.get(drawn.place..)?.get(..drawn.len)?;
-        (drawn.found == 1).then_some(TextItem { kind: drawn.kind, bytes })
+        let end = TextEnd::of_number(calls::string_end(self.table, drawn.place));
+        Some(TextItem { kind: drawn.kind, bytes, end: end.expect("an end of the library") })
     }
 }

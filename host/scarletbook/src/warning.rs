@@ -43,7 +43,7 @@ impl fmt::Display for Warning {
 
 macro_rules! codes {
     ($($(#[doc = $words:literal])* $name:ident = $number:literal $code:literal,)*) => {
-        /// What a warning says, numbered in the order of `WarningCode` of aclater/scarletbook-rs, which has 1 to 18.
+        /// What a warning says: 1 to 18 in the order of `WarningCode` of aclater/scarletbook-rs, which has no 19.
         #[derive(Clone, Copy, Debug, PartialEq, Eq, Hash, PartialOrd, Ord)]
         #[repr(u8)]
         pub enum WarningCode {
@@ -59,7 +59,7 @@ macro_rules! codes {
                 self as u8
             }
 
-            /// Its name in a catalogue, as aclater/scarletbook-rs has those of 1 to 18.
+            /// Its name in a catalogue; of 1 to 18, as aclater/scarletbook-rs has it.
             pub fn code(self) -> &'static str {
                 match self { $(WarningCode::$name => $code,)* }
             }
@@ -109,6 +109,6 @@ codes! {
     MasterTocCopiesDiffer = 17 "master-toc-copies-differ",
     /// its sample frequency code is not that of DSD64
     SampleFrequencyUnknown = 18 "sample-frequency-unknown",
-    /// has a text that no zero byte ends
+    /// has a text not ended by a zero byte
     TrackTextUnterminated = 19 "track-text-unterminated",
 }

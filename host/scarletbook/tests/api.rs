@@ -7,10 +7,11 @@ mod small_disc;
 use scarletbook::record::{self, Chain, Lsn, SECTOR_SIZE, Timecode};
 use scarletbook::{
     AreaTextItem, Disc, DiscTextItem, Header, Items, Memory, Refusal, Refused, SectorFormat, Table,
-    TextItem, TrackTextItem, Warning, WarningCode,
+    TextEnd, TextItem, Track, TrackTextItem, Warning, WarningCode,
 };
 use small_disc::{area_table, plain, put, put_in, stored};
 use std::error::Error;
+use std::mem::offset_of;
 
 const MASTER: usize = 510;
 
@@ -130,9 +131,37 @@ fn texts_that_are_there() {
     assert_eq!(title, Ok(Some("Entr'acte été".to_owned())));
     let track = second.track(1).expect("track 1");
     assert_eq!(track.text(TrackTextItem::Title), Err(Refusal::SetNotHeld));
+    assert_eq!(track.text_end(TrackTextItem::Title), Some(TextEnd::ZeroByte));
     assert_eq!(track.text(TrackTextItem::Performer), Ok(None));
     let texts: Vec<_> = track.texts().collect();
     assert_eq!(texts, [(TrackTextItem::Title, Err(Refusal::SetNotHeld))]);
+}
+
+#[test]
+fn how_texts_ended() {
+    // A title of 4,096 bytes; a text of the area that ends with its table, before it an empty one.
+    let mut table = area_table(b"TWOCHTOC", 1, &[b"One", &[b'a'; 4096], b"Three"], 9);
+    put(&mut table, 146, &[71, 255, 71, 254]);
+    put(&mut table, 9 * SECTOR_SIZE - 2, b"\0C");
+    // A text of the disc that ends with its sector.
+    let mut image = disc_of(&table);
+    put_in(&mut image, MASTER + 1, 18, &[7, 252]);
+    put_in(&mut image, MASTER + 1, 2044, b"Trio");
+    let (disc, lone) = (read(&image), Table::read(&table).expect("accepted"));
+    assert_eq!(disc.text_end(DiscTextItem::AlbumTitle), Some(TextEnd::ZeroByte));
+    assert_eq!(disc.text_end(DiscTextItem::AlbumArtist), Some(TextEnd::TableEnd));
+    assert_eq!(disc.text_end(DiscTextItem::DiscTitle), None);
+    for area in disc.areas().chain(lone.area()) {
+        let ends = AreaTextItem::ALL.map(|item| area.text_end(item));
+        assert_eq!(ends, [None, Some(TextEnd::TableEnd), None, None]);
+        let titles = area.tracks().map(|track| track.text_end(TrackTextItem::Title));
+        let [zero_byte, max_bytes] = [TextEnd::ZeroByte, TextEnd::MaxBytes].map(Some);
+        assert!(titles.eq([zero_byte, max_bytes, zero_byte]));
+        assert!(area.tracks().all(|track| track.text_end(TrackTextItem::Performer).is_none()));
+    }
+    let unterminated = |slot| Warning { code: WarningCode::TrackTextUnterminated, slot, track: 2 };
+    let warnings = disc.warnings().filter(|w| w.code == WarningCode::TrackTextUnterminated);
+    assert!(warnings.eq([1, 2].map(unterminated)) && lone.warnings().eq([unterminated(1)]));
 }
 
 #[test]
@@ -148,15 +177,60 @@ fn warnings_in_words() {
     );
     let words = Warning { code: WarningCode::AreaTocUnreadable, slot: 2, track: 0 }.to_string();
     assert_eq!(words, "area 2: no copy of its table can be read; left out");
+    let last = Warning::from_word(19 * 65_536 + 256 + 255).expect("code 19");
+    assert_eq!(last.to_string(), "area 1, track 255: has a text not ended by a zero byte");
+    assert_eq!(last.code.code(), "track-text-unterminated");
+    assert_eq!([0, 20, 255].map(|code| Warning::from_word(code * 65_536 + 256 + 1)), [None; 3]);
     for (code, number) in WarningCode::ALL.into_iter().zip(1..) {
         assert_eq!(code as u32, number);
     }
 }
 
+/// A disc with as many warnings as there can be: 3 of it, and of each slot one of its copies, one of
+/// its table and four of each of 255 tracks.
+fn disc_of_warnings() -> Vec<u8> {
+    let mut table = area_table(b"TWOCHTOC", 1, &[&b"One"[..]; 255], 8);
+    let items = b"\x02\0\0\0\x08\0One\0\x01\0Two";
+    let place = table.len() - items.len();
+    put(&mut table, place, items);
+    put(&mut table, SECTOR_SIZE + 8, &((place - SECTOR_SIZE) as u16).to_be_bytes().repeat(255));
+    // An unknown frequency; no play time; an area of one sector, where no track starts.
+    put(&mut table, 20, &[5]);
+    put(&mut table, 64, &[0]);
+    put(&mut table, 72, &[1; 8]);
+    let mut image = disc_of(&table);
+    // Second copies behind the image; a text channel without texts; no manufacturer's sector.
+    put_in(&mut image, MASTER, 68, &[1; 4]);
+    put_in(&mut image, MASTER, 76, &[1; 4]);
+    put_in(&mut image, MASTER, 128, &[1]);
+    put_in(&mut image, MASTER + 1, 0, &[0]);
+    put_in(&mut image, MASTER + 9, 0, &[0]);
+    image
+}
+
+#[test]
+fn every_warning_that_a_disc_can_have() {
+    let image = disc_of_warnings();
+    let disc = read(&image);
+    let of_slot = |slot: u32| {
+        let tracks = (1..=255).flat_map(|track| [14, 15, 13, 19].map(|code| (code, track)));
+        let warnings = [(5, 0), (18, 0)].into_iter().chain(tracks);
+        warnings.map(move |(code, track)| code * 65_536 + slot * 256 + track)
+    };
+    let of_disc = [17, 1, 2].map(|code| code * 65_536).into_iter();
+    let words: Vec<u32> = of_disc.chain(of_slot(1)).chain(of_slot(2)).collect();
+    assert_eq!(words.len(), 2047);
+    assert!(disc.warnings().eq(words.iter().filter_map(|&word| Warning::from_word(word))));
+    let mut lent = lent(544_768, 510, 2047);
+    let read = Disc::read_in(0u32, &image, lent.memory()).expect("accepted");
+    assert!(read.warnings().eq(disc.warnings()));
+    assert_eq!(lent.words, words);
+}
+
 #[test]
 fn lent_memory_holds_what_own_memory_does() {
     let image = plain();
-    let mut lent = lent(544_769, 511, 1538);
+    let mut lent = lent(544_769, 511, 2048);
     let disc = Disc::read_in(0u32, &image, lent.memory()).expect("accepted");
     let own = read(&image);
     assert_eq!((disc.master(), disc.sectors()), (own.master(), own.sectors()));
@@ -173,7 +247,7 @@ fn lent_memory_holds_what_own_memory_does() {
 fn memory_that_is_too_small() {
     let image = plain();
     for (work, tracks, words) in
-        [(544_767, 510, 1537), (544_768, 509, 1537), (544_768, 510, 1536), (0, 0, 0)]
+        [(544_767, 510, 2047), (544_768, 509, 2047), (544_768, 510, 2046), (0, 0, 0)]
     {
         let mut lent = lent(work, tracks, words);
         let read = Disc::read_in(SectorFormat::Plain, &image, lent.memory());
@@ -207,7 +281,7 @@ fn refusals_of_a_disc() {
 
 #[test]
 fn a_silent_disc_has_its_master_record_and_warnings() {
-    let mut lent = lent(544_768, 510, 1537);
+    let mut lent = lent(544_768, 510, 2047);
     let image = silent_disc();
     for refused in [
         Disc::read(0u32, &image).expect_err("refused"),
@@ -255,7 +329,7 @@ fn an_area_without_tracks() {
 #[test]
 fn a_lone_table() {
     let bytes = area_table(b"TWOCHTOC", 1, &[b"One", b"Two"], 7);
-    let (mut tracks, mut words) = (vec![record::Track::default(); 255], vec![9; 766]);
+    let (mut tracks, mut words) = (vec![record::Track::default(); 255], vec![9; 1021]);
     for table in [Table::read(&bytes), Table::read_in(&bytes, &mut tracks, &mut words)] {
         let table = table.expect("accepted");
         assert_eq!(table.warnings().count(), 0);
@@ -268,6 +342,8 @@ fn a_lone_table() {
     let refused = Table::read_in(&bytes, &mut tracks[1..], &mut words).expect_err("refused");
     assert_eq!(refused.refusal(), Refusal::ShortBuffer);
     assert!(refused.silent().is_none());
+    let refused = Table::read_in(&bytes, &mut tracks, &mut words[1..]).expect_err("refused");
+    assert_eq!(refused.refusal(), Refusal::ShortBuffer);
 }
 
 #[test]
@@ -288,8 +364,9 @@ fn a_lone_table_that_is_refused() {
 fn items_drawn_one_by_one() {
     let table = b"\x01\0One\0\x09\0\0\x02\0Two";
     let items: Vec<_> = Items::new(table, 0, 9).collect();
-    let item = |kind, bytes| TextItem { kind, bytes };
-    assert_eq!(items, [item(1, &b"One"[..]), item(9, b""), item(2, b"Two")]);
+    let item = |kind, bytes, end| TextItem { kind, bytes, end };
+    let [one, empty] = [item(1, &b"One"[..], TextEnd::ZeroByte), item(9, b"", TextEnd::ZeroByte)];
+    assert_eq!(items, [one, empty, item(2, b"Two", TextEnd::TableEnd)]);
     assert_eq!(Items::new(table, 0, 2).count(), 2);
     let mut drawn = Items::new(table, 0, usize::MAX);
     assert_eq!(drawn.by_ref().count(), 3);
@@ -298,6 +375,26 @@ fn items_drawn_one_by_one() {
         assert_eq!(Items::new(table, place, usize::MAX).next(), None);
     }
     assert_eq!(Items::new(&[], 0, 1).next(), None);
+}
+
+#[test]
+fn items_ended_by_4096_bytes_and_by_the_table_s_end() {
+    // The item behind 4,096 bytes begins with the next byte that is not zero.
+    let table = [b"\x01\0", &[b'a'; 4096][..], b"\x02\0Two\0\x03\0"].concat();
+    let ends: Vec<_> = Items::new(&table, 0, 9).map(|item| (item.kind, item.end)).collect();
+    assert_eq!(ends, [(1, TextEnd::MaxBytes), (2, TextEnd::ZeroByte), (3, TextEnd::TableEnd)]);
+}
+
+#[test]
+fn numbers_of_ends() {
+    assert_eq!(TextEnd::ALL.map(TextEnd::number), [1, 2, 3]);
+    let [zero_byte, max_bytes, table_end] = TextEnd::ALL.map(Some);
+    assert_eq!(
+        [0, 1, 2, 3, 4, 255].map(TextEnd::of_number),
+        [None, zero_byte, max_bytes, table_end, None, None]
+    );
+    let end = |end| record::TextPlace { place: 1, end }.end();
+    assert_eq!([0, 1, 2, 3, 4].map(end), [None, zero_byte, max_bytes, table_end, None]);
 }
 
 #[test]
@@ -355,6 +452,14 @@ fn what_is_printed_for_debugging_leaves_memory_out() {
 }
 
 #[test]
+fn sizes_of_records_with_texts() {
+    assert_eq!((size_of::<record::TextPlace>(), offset_of!(record::TextPlace, end)), (8, 4));
+    assert_eq!((size_of::<record::Track>(), offset_of!(record::Track, text)), (164, 52));
+    assert_eq!((size_of::<record::Area>(), offset_of!(record::Area, text)), (144, 112));
+    assert_eq!((size_of::<record::MasterToc>(), offset_of!(record::MasterToc, text)), (304, 172));
+}
+
+#[test]
 fn small_conveniences() {
     let disc = read(&plain());
     let area = disc.area(1).expect("slot 1");
@@ -363,7 +468,7 @@ fn small_conveniences() {
     assert_eq!(disc.master().locales()[0].charset, 2);
     let silent = Disc::read(0u32, &silent_disc()).err().and_then(Refused::into_silent);
     assert_eq!(silent.expect("a silent disc").warnings().count(), 1);
-    assert_eq!(WarningCode::ALL.map(WarningCode::number)[17], 18);
+    assert_eq!(WarningCode::ALL.map(WarningCode::number)[18], 19);
 }
 
 #[test]
@@ -439,16 +544,39 @@ fn a_header_mends_or_is_beyond_mending() {
     assert_eq!(scarletbook::mend(3u32, &raw, 570), Err(Refusal::ForeignFormat));
 }
 
+/// Whether just those of some texts say how they ended that are there.
+fn told<I: Copy>(
+    items: impl IntoIterator<Item = I>,
+    text: impl Fn(I) -> Result<Option<String>, Refusal>,
+    end: impl Fn(I) -> Option<TextEnd>,
+) -> bool {
+    items.into_iter().all(|item| end(item).is_some() == (text(item) != Ok(None)))
+}
+
+/// Whether a track has warning 19 once if one of its texts ended otherwise than by a zero byte, else
+/// not at all.
+fn warned(disc: &Disc, track: &Track) -> bool {
+    let mut ends = TrackTextItem::ALL.into_iter().filter_map(|item| track.text_end(item));
+    let (slot, number) = (track.area().slot(), track.number);
+    let warning = Warning { code: WarningCode::TrackTextUnterminated, slot, track: number };
+    let count = disc.warnings().filter(|met| *met == warning).count();
+    count == usize::from(ends.any(|end| end != TextEnd::ZeroByte))
+}
+
 /// Asks everything that there is to ask of a disc, and counts the answers.
 fn ask_all(disc: &Disc) -> usize {
     let mut answers =
         disc.texts().count() + disc.warnings().map(|w| w.to_string().len()).sum::<usize>();
     answers += disc.manufacturer().map_or(0, <[u8]>::len);
+    assert!(told(DiscTextItem::ALL, |item| disc.text(item), |item| disc.text_end(item)));
     for area in disc.areas() {
         answers += area.texts().count() + area.table().len() + area.chain().trl1 as usize;
+        assert!(told(AreaTextItem::ALL, |item| area.text(item), |item| area.text_end(item)));
         for track in area.tracks() {
             answers += track.texts().count() + track.isrc().map_or(0, |isrc| isrc.len());
             answers += usize::from(track.genre().is_some());
+            assert!(told(TrackTextItem::ALL, |item| track.text(item), |item| track.text_end(item)));
+            assert!(warned(disc, &track), "{track:?}");
         }
     }
     answers
@@ -456,7 +584,8 @@ fn ask_all(disc: &Disc) -> usize {
 
 #[test]
 fn no_damaged_disc_panics() {
-    let sound = disc_of(&area_table(b"TWOCHTOC", 1, &[b"One", b"Two", b"Three"], 8));
+    // The last title ends with its table.
+    let sound = disc_of(&area_table(b"TWOCHTOC", 1, &[b"One", b"Two", &[b'a'; 4070]], 8));
     let mut state = 1u64;
     let mut below = |bound: usize| {
         state =

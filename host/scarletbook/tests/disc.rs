@@ -90,7 +90,26 @@ fn the_master_record() {
     assert_eq!(master.album_catalog_number_stored.text(), b" A1");
     let pointer = AreaPointer { toc1_lsn: Lsn(541), toc2_lsn: Lsn(540), toc_sectors: 3 };
     assert_eq!((master.two_channel, master.multichannel), (AreaPointer::default(), pointer));
-    assert_eq!((master.text[8].place, master.text[0].place, master.manufacturer), (1024, 0, 1));
+    let text = TextPlace { place: 1024, end: ENDED_BY_ZERO_BYTE };
+    assert_eq!(
+        (master.text[8], master.text[0], master.manufacturer),
+        (text, TextPlace::default(), 1)
+    );
+}
+
+#[test]
+fn a_text_of_the_disc_ends_with_sector_1_and_gives_no_warning() {
+    let mut image = image(&SECOND_COPY);
+    let mut text = |bytes: &[u8]| {
+        put(&mut image, MASTER + 1, SECTOR - 4, bytes);
+        put(&mut image, MASTER + 1, 16, &(SECTOR as u16 - 4).to_be_bytes());
+        let answer = read(0, &image, &mut lent());
+        (answer.master.text[0].place as usize, answer.master.text[0].end, answer.warnings)
+    };
+    assert_eq!(text(b"End\0"), (SECTOR - 4, ENDED_BY_ZERO_BYTE, 2));
+    // It goes on in sector 2.
+    assert_eq!(text(b"Goes on\0"), (SECTOR - 4, ENDED_BY_TABLE_END, 2));
+    assert_eq!(text(b"\0End"), (0, 0, 2));
 }
 
 #[test]

@@ -35,7 +35,7 @@ struct Lent {
 }
 
 fn read(table: &[u8]) -> (TableAnswer, Lent) {
-    let mut lent = Lent { tracks: vec![Track::default(); 255], words: vec![9; 766] };
+    let mut lent = Lent { tracks: vec![Track::default(); 255], words: vec![9; 1021] };
     let answer = read_table(table, &mut lent.tracks, &mut lent.words);
     (answer, lent)
 }
@@ -73,7 +73,9 @@ fn odd_tables_and_short_lists_are_refused_and_nothing_is_written() {
         let odd = TableAnswer { refusal: Refusal::OddTable.number(), ..TableAnswer::default() };
         assert_eq!((answer, lent.words[0]), (odd, 9));
     }
-    for (tracks, words, refusal) in [(254, 766, 2), (255, 765, 2), (0, 0, 2), (256, 767, 0)] {
+    for (tracks, words, refusal) in
+        [(254, 1021, 2), (255, 1020, 2), (0, 0, 2), (255, 1021, 0), (256, 1022, 0)]
+    {
         let mut tracks = vec![Track::default(); tracks];
         let mut words = vec![9; words];
         assert_eq!(read_table(&table[..6144], &mut tracks, &mut words).refusal, refusal);
@@ -136,6 +138,121 @@ fn records_are_not_trusted() {
     assert_eq!(decode(|area| area.present = 2), Refusal::NoSuchEntry.number());
     assert_eq!(decode(|area| area.origin.slot = 3), Refusal::NoSuchEntry.number());
     assert_eq!(decode(|area| area.text_charset = 3), Refusal::SetNotHeld.number());
+    let mut tracks = lent.tracks;
+    for end in [0, 2, 3, 255] {
+        tracks[0].text[0].end = end;
+        let text = decode_track_text(&table, &answer.area, &tracks, 1, 0, &mut [0; 8]);
+        assert_eq!(text, DecodeAnswer { refusal: 0, len: 8 });
+    }
+}
+
+/// The example in so many sectors, its track's items, as many as are counted, from a place on.
+fn with_items(sectors: usize, place: usize, count: u8, items: &[u8]) -> Vec<u8> {
+    let offset = ((place - 6148) as u16).to_be_bytes();
+    let parts: [(usize, &[u8]); 4] =
+        [(6144, b"SACDTTxt"), (6152, &offset), (place - 4, &[count]), (place, items)];
+    example(sectors, &parts)
+}
+
+/// The same, the items at the end of a table of four sectors.
+fn with_last_items(count: u8, items: &[u8]) -> Vec<u8> {
+    with_items(4, 4 * SECTOR - items.len(), count, items)
+}
+
+/// How the track's title and performer ended, and the codes of its warnings. The example has 14.
+fn ends(table: &[u8]) -> ([u8; 2], Vec<u32>) {
+    let (answer, lent) = read(table);
+    let [title, performer, others @ ..] = lent.tracks[0].text;
+    assert_eq!(others, [TextPlace::default(); 12]);
+    let codes = lent.words[..answer.warnings].iter().map(|word| word >> 16);
+    ([title.end, performer.end], codes.collect())
+}
+
+/// An item of a type, with a string of so many bytes and no zero byte behind them.
+fn item(kind: u8, bytes: usize) -> Vec<u8> {
+    [vec![kind, 0], vec![b'a'; bytes]].concat()
+}
+
+#[test]
+fn a_text_of_a_track_ended_by_a_zero_byte_or_the_table_s_end() {
+    assert_eq!(ends(&with_last_items(1, b"\x01\0One\0")), ([1, 0], vec![14]));
+    assert_eq!(ends(&with_last_items(1, b"\x01\0One")), ([3, 0], vec![14, 19]));
+    let table = with_last_items(2, b"\x01\0One\0\x02\0Two");
+    assert_eq!(ends(&table), ([1, 3], vec![14, 19]));
+    let (_, lent) = read(&table);
+    let performer = TextPlace { place: 4 * 2048 - 3, end: ENDED_BY_TABLE_END };
+    assert_eq!((lent.tracks[0].text[1], lent.words[1]), (performer, 19 * 65_536 + 256 + 1));
+}
+
+#[test]
+fn a_text_of_a_track_ended_by_4096_bytes() {
+    let unterminated = |title| ([title, 0], vec![14, 19]);
+    // Behind the string is a zero byte, or the table's end.
+    for (bytes, before_zero, before_end) in [
+        (4095, ([1, 0], vec![14]), unterminated(3)),
+        (4096, unterminated(2), unterminated(2)),
+        (4097, unterminated(2), unterminated(2)),
+    ] {
+        let title = item(1, bytes);
+        assert_eq!(ends(&with_items(6, 6656, 1, &title)), before_zero, "{bytes} bytes");
+        let place = 6 * SECTOR - title.len();
+        assert_eq!(ends(&with_items(6, place, 1, &title)), before_end, "{bytes} bytes");
+    }
+    let both = [item(1, 4096), vec![0], item(2, 4096)].concat();
+    assert_eq!(ends(&with_items(8, 6656, 2, &both)), ([2, 2], vec![14, 19]));
+}
+
+#[test]
+fn warning_19_is_about_texts_of_the_record_alone() {
+    // An item of unknown type, alone and before a title.
+    assert_eq!(ends(&with_last_items(1, b"\x08\0One")), ([0, 0], vec![14, 13]));
+    assert_eq!(ends(&with_last_items(2, b"\x08\0One\0\x01\0Two")), ([3, 0], vec![14, 13, 19]));
+    // A title that a later one replaces, and an empty one, which does not.
+    let replaced = [&item(1, 4096)[..], b"\0\x01\0Two\0"].concat();
+    assert_eq!(ends(&with_items(6, 6656, 2, &replaced)), ([1, 0], vec![14]));
+    let kept = [&item(1, 4096)[..], b"\0\x01\0\0"].concat();
+    assert_eq!(ends(&with_items(6, 6656, 2, &kept)), ([2, 0], vec![14, 19]));
+    // No texts: one past the table's end, none placed, none that is not empty.
+    let mut table = with_last_items(1, b"\x01\0One");
+    table[6152..6154].copy_from_slice(&[255, 255]);
+    assert_eq!(ends(&table), ([0, 0], vec![14, 12]));
+    table[6152..6154].copy_from_slice(&[0, 0]);
+    assert_eq!(ends(&table), ([0, 0], vec![14]));
+    assert_eq!(ends(&with_last_items(1, b"\x01\0")), ([0, 0], vec![14]));
+}
+
+#[test]
+fn a_text_of_an_area_gives_no_warning() {
+    let place = 3 * SECTOR - 4;
+    let (answer, lent) = read(&example(3, &[(144, &[23, 252]), (place, b"Area")]));
+    let description = TextPlace { place: place as u32, end: ENDED_BY_TABLE_END };
+    let [text, others @ ..] = answer.area.text;
+    assert_eq!((text, others), (description, [TextPlace::default(); 3]));
+    assert_eq!((answer.warnings, lent.words[0] >> 16), (1, 14));
+}
+
+#[test]
+fn every_warning_that_a_table_can_have() {
+    let items = b"\x02\0\0\0\x08\0One\0\x01\0Two";
+    let place = 4 * SECTOR - items.len();
+    let offsets = ((place - 6144) as u16).to_be_bytes().repeat(255);
+    let starts = [0, 0, 1, 0].repeat(255);
+    // An unknown frequency; no play time; 255 tracks, which start outside the area and have these items.
+    let parts: [(usize, &[u8]); 8] = [
+        (20, &[5]),
+        (64, &[0]),
+        (69, &[255]),
+        (2056, &[0; 4]),
+        (4104, &starts),
+        (6144, b"SACDTTxt"),
+        (6152, &offsets),
+        (place, items),
+    ];
+    let (answer, lent) = read(&example(4, &parts));
+    assert_eq!((answer.refusal, answer.warnings), (0, 1021));
+    let of_track = |track: u32| [14, 15, 13, 19].map(|code| code * 65_536 + 256 + track);
+    let expected: Vec<u32> = (1..=255).flat_map(of_track).collect();
+    assert_eq!((lent.words[0], &lent.words[1..]), (18 * 65_536 + 256, &expected[..]));
 }
 
 #[test]

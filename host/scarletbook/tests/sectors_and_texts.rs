@@ -156,6 +156,28 @@ fn a_string_ends_at_a_zero_after_4096_bytes_or_at_the_end() {
 }
 
 #[test]
+fn a_string_ended_by_4096_bytes_before_a_zero_byte_or_the_end() {
+    let ends = |table: &[u8]| [0, 1].map(|place| string_end(table, place));
+    let mut table = [b'a'; 4098];
+    // A zero byte behind 4,096 bytes, and behind one more.
+    table[4096] = 0;
+    assert_eq!(ends(&table), [ENDED_BY_MAX_BYTES, ENDED_BY_ZERO_BYTE]);
+    table[4096..].copy_from_slice(b"a\0");
+    assert_eq!(ends(&table), [ENDED_BY_MAX_BYTES; 2]);
+    // The end of the table, likewise.
+    assert_eq!(ends(&table[..4095]), [ENDED_BY_TABLE_END; 2]);
+    assert_eq!(ends(&table[..4096]), [ENDED_BY_MAX_BYTES, ENDED_BY_TABLE_END]);
+    assert_eq!(ends(&table[..4097]), [ENDED_BY_MAX_BYTES; 2]);
+}
+
+#[test]
+fn how_an_empty_string_ended() {
+    assert_eq!([0, 1].map(|place| string_end(b"\0\0", place)), [ENDED_BY_ZERO_BYTE; 2]);
+    assert_eq!([2, 3, usize::MAX].map(|place| string_end(b"a\0", place)), [ENDED_BY_TABLE_END; 3]);
+    assert_eq!([0, usize::MAX].map(|place| string_end(&[], place)), [ENDED_BY_TABLE_END; 2]);
+}
+
+#[test]
 fn code_8_is_latin_1_and_11_is_set_3() {
     assert_eq!([0, 1, 2, 7, 8, 15, 255].map(charset), [0; 7]);
     assert_eq!([3, 4, 5, 6, 11, 254].map(charset), [3, 4, 5, 6, 3, 6]);
