@@ -72,6 +72,12 @@ static int same_time(scarletbook_timecode a, scarletbook_timecode b)
     return a.minutes == b.minutes && a.seconds == b.seconds && a.frames == b.frames;
 }
 
+/* Whether a record has a text's place, and how it ended; both 0 for an absent text. */
+static int is_text(scarletbook_text_place text, uint32_t place, uint8_t end)
+{
+    return text.place == place && text.end == end;
+}
+
 static void discs(void)
 {
     make_image();
@@ -94,6 +100,9 @@ static void discs(void)
     scarletbook_decode_answer text =
         scarletbook_decode_disc_text(work, sizeof work, disc.master, SCARLETBOOK_DISC_TITLE, page, sizeof page);
     CHECK(text.refusal == 0 && text.len == 7 && memcmp(page, "Disc \303\251", 7) == 0);
+    CHECK(is_text(disc.master.text[SCARLETBOOK_DISC_TITLE], 1024, SCARLETBOOK_ENDED_BY_ZERO_BYTE));
+    CHECK(is_text(disc.master.text[SCARLETBOOK_ALBUM_TITLE], 0, 0));
+    CHECK(is_text(disc.multichannel.text[SCARLETBOOK_AREA_DESCRIPTION], 1792, SCARLETBOOK_ENDED_BY_ZERO_BYTE));
     text = scarletbook_decode_disc_area_text(work, sizeof work, disc.multichannel, SCARLETBOOK_AREA_DESCRIPTION,
                                              page, sizeof page);
     CHECK(text.refusal == 0 && text.len == 4 && memcmp(page, "Area", 4) == 0);
@@ -129,6 +138,10 @@ static void lone_tables(void)
     scarletbook_draw_answer item = scarletbook_draw_at(items, sizeof items - 1, 0, 5);
     CHECK(item.found == 1 && item.kind == 1 && item.place == 2 && item.len == 3);
     CHECK(item.next == 6 && item.left == 4);
+    CHECK(scarletbook_string_end(items, sizeof items - 1, item.place) == SCARLETBOOK_ENDED_BY_ZERO_BYTE);
+    item = scarletbook_draw_at(items, sizeof items - 1, item.next, item.left);
+    CHECK(item.kind == 2 && item.place == 8);
+    CHECK(scarletbook_string_end(items, sizeof items - 1, item.place) == SCARLETBOOK_ENDED_BY_TABLE_END);
 }
 
 /* Timecodes of tracks as stored, and what they are capped to in the example's play time of a minute. */
@@ -160,6 +173,77 @@ static void times_of_tracks(void)
         CHECK(same_time(tracks[i].times.stored_start, times[i].start));
         CHECK(same_time(tracks[i].times.stored_duration, times[i].duration));
     }
+}
+
+/* The example in six sectors, with a text block. */
+#define TEXTS (6 * SCARLETBOOK_SECTOR_SIZE)
+static uint8_t texts[TEXTS];
+
+/* Reads it with so many items of its track, from a place on. */
+static scarletbook_table_answer read_items(uint8_t count, size_t place, const void *items, size_t size)
+{
+    size_t offset = place - 6148;
+    memset(texts, 0, sizeof texts);
+    make_table(texts);
+    put(texts + 6144, "SACDTTxt", 8);
+    texts[6152] = (uint8_t)(offset >> 8);
+    texts[6153] = (uint8_t)offset;
+    texts[place - 4] = count;
+    memcpy(texts + place, items, size);
+    return scarletbook_read_table(texts, TEXTS, tracks, SCARLETBOOK_MAX_TRACKS, words, SCARLETBOOK_TABLE_WORDS);
+}
+
+/* Whether the track has a title at a place, how it ended, and a last warning behind 14 (0 for none). */
+static int ended(scarletbook_table_answer read, uint32_t place, uint8_t end, uint32_t code)
+{
+    return read.refusal == 0 && is_text(tracks[0].text[SCARLETBOOK_TRACK_TITLE], place, end) &&
+           is_text(tracks[0].text[SCARLETBOOK_TRACK_PERFORMER], 0, 0) && words[0] == 14u * 65536u + 256u + 1u &&
+           (code == 0 ? read.warnings == 1 : read.warnings == 2 && words[1] == code * 65536u + 256u + 1u);
+}
+
+static void ends_of_texts(void)
+{
+    static uint8_t longest[2 + 4096] = {1, 0};
+    const uint32_t unterminated = SCARLETBOOK_TRACK_TEXT_UNTERMINATED, last = TEXTS - 5;
+    memset(longest + 2, 'a', 4096);
+    CHECK(ended(read_items(1, 6656, "\1\0One", 5), 6658, SCARLETBOOK_ENDED_BY_ZERO_BYTE, 0));
+    CHECK(ended(read_items(1, last, "\1\0One", 5), last + 2, SCARLETBOOK_ENDED_BY_TABLE_END, unterminated));
+    CHECK(ended(read_items(1, 6656, longest, 4098), 6658, SCARLETBOOK_ENDED_BY_MAX_BYTES, unterminated));
+    CHECK(ended(read_items(1, 6656, longest, 4097), 6658, SCARLETBOOK_ENDED_BY_ZERO_BYTE, 0));
+    CHECK(ended(read_items(1, TEXTS - 4098, longest, 4098), TEXTS - 4096, SCARLETBOOK_ENDED_BY_MAX_BYTES,
+                unterminated));
+    CHECK(ended(read_items(1, last, "\10\0One", 5), 0, 0, SCARLETBOOK_TRACK_TEXT_TYPE_UNKNOWN));
+    CHECK(ended(read_items(1, 6656, "\1\0", 2), 0, 0, 0));
+}
+
+/* A string of 4,096 bytes before a zero byte, or before the table's end, is ended by them. */
+static void ends_of_strings(void)
+{
+    static uint8_t table[4097];
+    memset(table, 'a', 4096);
+    CHECK(scarletbook_string_end(table, 4097, 0) == SCARLETBOOK_ENDED_BY_MAX_BYTES);
+    CHECK(scarletbook_string_end(table, 4097, 1) == SCARLETBOOK_ENDED_BY_ZERO_BYTE);
+    CHECK(scarletbook_string_end(table, 4097, 4096) == SCARLETBOOK_ENDED_BY_ZERO_BYTE);
+    CHECK(scarletbook_string_end(table, 4096, 0) == SCARLETBOOK_ENDED_BY_MAX_BYTES);
+    CHECK(scarletbook_string_end(table, 4096, 1) == SCARLETBOOK_ENDED_BY_TABLE_END);
+    CHECK(scarletbook_string_end(table, 4096, 4096) == SCARLETBOOK_ENDED_BY_TABLE_END);
+    CHECK(scarletbook_string_end(table, 4096, SIZE_MAX) == SCARLETBOOK_ENDED_BY_TABLE_END);
+}
+
+/* What is lent for warnings, a word short; and the last warning's name and words. */
+static void warnings(void)
+{
+    const uint8_t *table = image + TABLE * SCARLETBOOK_SECTOR_SIZE;
+    const size_t size = 3 * SCARLETBOOK_SECTOR_SIZE;
+    CHECK(scarletbook_read_table(table, size, tracks, 255, words, 1020).refusal == SCARLETBOOK_SHORT_BUFFER);
+    CHECK(scarletbook_read_table(table, size, tracks, 255, words, 1021).refusal == 0);
+    CHECK(scarletbook_read_disc(0, image, sizeof image, work, sizeof work, tracks, 510, words, 2046).refusal ==
+          SCARLETBOOK_SHORT_BUFFER);
+    CHECK(scarletbook_read_disc(0, image, sizeof image, work, sizeof work, tracks, 510, words, 2047).refusal == 0);
+    CHECK(strcmp(scarletbook_warning_name(19), "track-text-unterminated") == 0);
+    CHECK(strcmp(scarletbook_warning_words(19), "has a text not ended by a zero byte") == 0);
+    CHECK(*scarletbook_warning_name(20) == 0 && *scarletbook_warning_words(20) == 0);
+    CHECK(*scarletbook_warning_name(255) == 0 && *scarletbook_warning_words(255) == 0);
 }
 
 static void sectors(void)
@@ -346,6 +430,7 @@ static void parts_of_tables(void)
     CHECK(scarletbook_be16_at(bytes, sizeof bytes, 1) == 0x0203);
     CHECK(scarletbook_be32_at(bytes, sizeof bytes, 0) == 0x01020361);
     CHECK(scarletbook_string_length(bytes, sizeof bytes, 3) == 2);
+    CHECK(scarletbook_string_end(bytes, sizeof bytes, 3) == SCARLETBOOK_ENDED_BY_ZERO_BYTE);
     CHECK(scarletbook_charset(8) == 0 && scarletbook_charset(11) == 3);
     scarletbook_decode_answer text = scarletbook_decode(bytes + 3, 2, 2, page, 3);
     CHECK(text.refusal == 0 && text.len == 3 && memcmp(page, "a\303\251", 3) == 0);
@@ -409,6 +494,7 @@ static void no_bytes(void)
     CHECK(scarletbook_be16_at(NULL, 0, 0) == 0);
     CHECK(scarletbook_be32_at(NULL, 0, 0) == 0);
     CHECK(scarletbook_string_length(NULL, 0, 0) == 0);
+    CHECK(scarletbook_string_end(NULL, 0, 0) == SCARLETBOOK_ENDED_BY_TABLE_END);
     CHECK(scarletbook_decode(NULL, 0, 2, NULL, 0).len == 0);
     CHECK(scarletbook_decode(page, 1, 2, NULL, 0).refusal == SCARLETBOOK_SHORT_PAGE);
     CHECK(scarletbook_fixed_bytes(NULL, 0).len == 0);
@@ -420,6 +506,9 @@ int main(void)
     discs();
     lone_tables();
     times_of_tracks();
+    ends_of_texts();
+    ends_of_strings();
+    warnings();
     sectors();
     headers();
     mended_headers();

@@ -31,6 +31,13 @@ static void print_verdicts(void)
     NUMBER(UNSOUND);
 }
 
+static void print_ends(void)
+{
+    NUMBER(ENDED_BY_ZERO_BYTE);
+    NUMBER(ENDED_BY_MAX_BYTES);
+    NUMBER(ENDED_BY_TABLE_END);
+}
+
 static void print_refusals(void)
 {
     NUMBER(FOREIGN_FORMAT);
@@ -68,6 +75,7 @@ static void print_warnings(void)
     NUMBER(AUDIO_SECTOR_MALFORMED);
     NUMBER(MASTER_TOC_COPIES_DIFFER);
     NUMBER(SAMPLE_FREQUENCY_UNKNOWN);
+    NUMBER(TRACK_TEXT_UNTERMINATED);
 }
 
 static void print_items(void)
@@ -126,6 +134,7 @@ int main(void)
 {
     print_sizes();
     print_verdicts();
+    print_ends();
     print_refusals();
     print_warnings();
     print_items();

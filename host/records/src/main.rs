@@ -3,15 +3,15 @@
 
 use scarletbook::raw::*;
 use scarletbook::{
-    AreaTextItem, DiscTextItem, Header, Refusal, SectorFormat, TrackTextItem, WarningCode,
+    AreaTextItem, DiscTextItem, Header, Refusal, SectorFormat, TextEnd, TrackTextItem, WarningCode,
 };
-use std::fmt::Write;
+use std::fmt::{Debug, Write};
 use std::process::ExitCode;
 
-/// The name of a refusal, a blank before each further word.
-fn name_of(refusal: Refusal) -> String {
+/// The name of a refusal or of an end, a blank before each further word.
+fn name_of(named: impl Debug) -> String {
     let mut name = String::new();
-    for letter in format!("{refusal:?}").chars() {
+    for letter in format!("{named:?}").chars() {
         name.push_str(if letter.is_uppercase() && !name.is_empty() { " " } else { "" });
         name.push(letter);
     }
@@ -37,12 +37,13 @@ fn constants() -> Vec<(String, u32)> {
     let sizes = sizes.map(|(name, size)| (name.to_owned(), size as u32));
     let formats = SectorFormat::ALL.map(|format| (format!("{format:?}"), format.number()));
     let headers = Header::ALL.map(|header| (format!("{header:?}"), header.number().into()));
+    let ends = TextEnd::ALL.map(|end| (format!("ended by {}", name_of(end)), end.number().into()));
     let refusals = Refusal::ALL.map(|refusal| (name_of(refusal), refusal.number().into()));
     let codes = WarningCode::ALL.map(|code| (code.code().to_owned(), code as u32));
     let disc = DiscTextItem::ALL.map(|item| (item.name().to_owned(), item.index()));
     let area = AreaTextItem::ALL.map(|item| (format!("area_{}", item.name()), item.index()));
     let track = TrackTextItem::ALL.map(|item| (format!("track_{}", item.name()), item.index()));
-    [&sizes[..], &formats, &headers, &refusals, &codes, &disc, &area, &track].concat()
+    [&sizes[..], &formats, &headers, &ends, &refusals, &codes, &disc, &area, &track].concat()
 }
 
 /// The constants under the names of C, then the words of every number of a byte.
