@@ -11,8 +11,10 @@ const COPIES: [usize; 2] = [540, 546];
 const TABLE_SECTORS: usize = 6;
 /// The sectors of the sample.
 const SECTORS: usize = 564;
-/// Where a table has its play time, and the starts and durations of its tracks, four bytes each.
+/// Where a table has its play time, the offsets of its tracks' texts, two bytes each, and their starts
+/// and durations, four bytes each.
 const PLAYTIME: usize = 64;
+const TEXT_OFFSETS: usize = SECTOR + 8;
 const STARTS: usize = 3 * SECTOR + 8;
 const DURATIONS: usize = 3 * SECTOR + 1028;
 
@@ -130,6 +132,27 @@ Area 1 (two-channel): stereo, play time 05:00.00, 3 tracks
     assert!(listed.out.contains(area), "{}", listed.out);
     let stored = r#""stored_start": {"minutes": 4, "seconds": 61, "frames": 80}"#;
     assert!(run(&["--json", scratch.name()]).out.contains(stored));
+}
+
+#[test]
+fn a_text_not_ended_by_a_zero_byte_gives_a_warning_and_changes_no_other_line() {
+    // The items of track 3, moved to the end of the table: there is no zero byte behind its performer.
+    let items = b"\x02\0\0\0\x01 Rondo\0\x02 Trio Vall\xe9mont";
+    let place = TABLE_SECTORS * SECTOR - items.len();
+    let offset = ((place - SECTOR) as u16).to_be_bytes();
+    let image = with_table(&[(TEXT_OFFSETS + 4, &offset), (place, items)]);
+    let scratch = Scratch::new("unterminated.iso", &image);
+    let listing = include_str!("sample.txt").replace(
+        "\nWarnings\n",
+        "\nWarnings\n  area 1, track 3: has a text not ended by a zero byte\n",
+    );
+    assert_eq!(run(&[scratch.name()]), ran(0, &listing, ""));
+    let dump = include_str!("sample.dump").replace("\nwarnings 1\n", "\nwarnings 2\n19 1 3\n");
+    assert_eq!(run(&["--dump", scratch.name()]), ran(0, &dump, ""));
+    let warning = r#"{"code": 19, "name": "track-text-unterminated", "slot": 1, "track": 3}"#;
+    let json = include_str!("sample.json")
+        .replace("\"warnings\": [\n", &format!("\"warnings\": [\n    {warning},\n"));
+    assert_eq!(run(&["--json", scratch.name()]), ran(0, &json, ""));
 }
 
 #[test]
