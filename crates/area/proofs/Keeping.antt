@@ -7,10 +7,10 @@ use native.Mathlib.Omega.{arith}
 use lib.Dec.{ltb}
 use lib.ListN.{set}
 use borrow.Author.Tests.{eq-eqb, ne-eqb, lt-ltb, le-ltb, ltb-true, ltb-false}
-use Rattle.text.specs.String.{endOf}
 use Rattle.area.specs.Items.{Item}
-use Rattle.area.specs.TextPlaces.{textPlace}
+use Rattle.area.specs.TextPlaces.{placedText}
 use Rattle.area.specs.TrackText.{trackTexts, itemIndex, keep}
+use Rattle.area.specs.declared.text_places.TextPlace.{TextPlace}
 use Rattle.area.specs.declared.track_text.ItemsKept.{ItemsKept}
 
 -- an item that takes its place is not empty, and of a known type
@@ -25,13 +25,13 @@ module _ (table : List ℕ) (item : Item) (before : ItemsKept) where
   keep-empty h = let empty : item .len ≡ 0 = omega arith in simp (eq-eqb _ _ empty)
 
   module _ {index : ℕ} (is : index ≡ itemIndex (item .kind)) where
-    -- one of a known type takes its place, with its end
-    pub keep-known : (ltb 0 (item .len) && ltb index trackTexts) ≡ true → {end : ℕ} → end ≡ endOf table (item .place)
-        → record { places = set (before .places) index (record { place = item .place; end = end }); unknown = before .unknown } ≡ keep table item before
-    unfolding keep textPlace
-    keep-known e ended =
+    -- one of a known type takes its place
+    pub keep-known : (ltb 0 (item .len) && ltb index trackTexts) ≡ true → {text : TextPlace} → text ≡ placedText table (item .place)
+        → record { places = set (before .places) index text; unknown = before .unknown } ≡ keep table item before
+    unfolding keep
+    keep-known e told =
         let h = full-and-known (item .len) index e in let full : item .len ≡ 0 → ⊥ = λ z. omega arith in
-        let below : itemIndex (item .kind) < trackTexts = omega arith in rw (is, ended) (simp (ne-eqb _ _ full, lt-ltb _ _ below))
+        let below : itemIndex (item .kind) < trackTexts = omega arith in rw (is, told) (simp (ne-eqb _ _ full, lt-ltb _ _ below))
 
     -- one of an unknown type is noted
     pub keep-unknown : (ltb 0 (item .len) && ltb index trackTexts) ≡ false → 0 < item .len

@@ -17,13 +17,13 @@ use Rattle.area.specs.Locale.{maxLocales, codeAt, localeAt, noLocale, lo
 use Rattle.area.specs.Skip.{skipOf}
 use Rattle.area.specs.Table.{readsOf, tracksOf, yieldOf, tableOf, areaGiven, tracksGiven, warningsOf}
 use Rattle.area.specs.TableLaws.{tracks-most, warnings-most}
-use Rattle.area.specs.TabulateLaws.{length-tabulate, map-tabulate}
+use Rattle.area.specs.TabulateLaws.{length-tabulate, tabulate-member, map-tabulate}
 use Rattle.area.specs.Timecode.{timecodeAt, frameNumber}
 use Rattle.area.specs.Track.{trackOf}
 use Rattle.area.specs.TrackLaws.{track-within}
 use Rattle.area.specs.Units.{lsnAt}
 use Rattle.area.specs.Warning.{trackTextUnterminated}
-use Rattle.area.specs.WarningLaws.{tabulate-member, TableCode, table-codes, table-warnings-of}
+use Rattle.area.specs.WarningLaws.{TableCode, table-codes, table-warnings-of}
 use Rattle.area.specs.declared.area.Area.{Area}
 use Rattle.area.specs.declared.locale.Locale.{Locale}
 use Rattle.area.specs.declared.track.Track.{Track}

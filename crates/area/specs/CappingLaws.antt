@@ -25,12 +25,12 @@ use Rattle.area.specs.TextPlaces.{anyUnterminated}
 use Rattle.area.specs.Table.{Table, areaOf, ofSlot, dsd64, ofTrack, frequencyWarnings, trackWarnings, readsOf, tracksOf, tracksWarnings, yieldOf, tableOf, areaGiven, tracksGiven, warningsOf, yields}
 use Rattle.area.specs.TableLaws.{by-skip, area-of, address-tracks, address-warnings, address-playtime, tracks-count, tracks-most, warnings-most, head-skips, area-yields, addressed-track-count, addressed-playtime}
 use Rattle.area.specs.Tabulate.{tabulate}
-use Rattle.area.specs.TabulateLaws.{map-tabulate}
+use Rattle.area.specs.TabulateLaws.{tabulate-member, map-tabulate}
 use Rattle.area.specs.Timecode.{frameNumber}
 use Rattle.area.specs.Track.{cappedTimes, timesOf, trackOf}
 use Rattle.area.specs.TrackLaws.{track-within, track-warned, track-number, text-not-past}
 use Rattle.area.specs.Warning.{wordOf, trackPastPlaytime, trackLsnOutsideArea, sampleFrequencyUnknown, trackTextUnterminated}
-use Rattle.area.specs.WarningLaws.{word-value, in-when, track-warnings-of, tabulate-member, table-warnings-of}
+use Rattle.area.specs.WarningLaws.{word-value, in-when, track-warnings-of, table-warnings-of}
 use Rattle.area.specs.declared.area.Area.{Area}
 use Rattle.area.specs.declared.chain.Chain.{Chain}
 use Rattle.area.specs.declared.timecode.Timecode.{Timecode}

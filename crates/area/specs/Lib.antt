@@ -26,6 +26,7 @@ pub mod TrackLaws
 pub mod Table
 pub mod WarningLaws
 pub mod BoundLaws
+pub mod TextPlaceLaws
 pub mod TableLaws
 pub mod ServeLaws
 pub mod Lone

@@ -19,7 +19,7 @@ use Rattle.area.specs.declared.track.Track.{Track}
 unfoldable pub isOddTable : ℕ → Bool
 isOddTable bytes = eqb bytes 0 || ltb maxTableBytes bytes || not (eqb (bytes % sectorSize) 0)
 
--- "A lone table borrows 255 records and" words. "Warning buffers become .. 1,021 words." (02, item 5)
+-- "A lone table borrows 255 records". "Warning buffers become 2,047 and 1,021 words." (02, item 5): `words-asked` of `disc` has the number
 abbrev pub tableWords : ℕ
 tableWords = maxHeadWarnings + maxTracks * maxTrackWarnings
 

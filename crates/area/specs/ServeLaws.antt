@@ -34,7 +34,7 @@ use Rattle.area.specs.Tabulate.{tabulate}
 use Rattle.area.specs.TabulateLaws.{tabulate-ext}
 use Rattle.area.specs.Timecode.{timecodeAt}
 use Rattle.area.specs.Track.{storedTimes, genreAt, isrcField, isrcGenreAt, trackOf}
-use Rattle.area.specs.TextPlaces.{isAbsent, textPlace, textPlaceAt}
+use Rattle.area.specs.TextPlaces.{isAbsent, placedText, textPlaceAt}
 use Rattle.area.specs.TrackText.{noItems, keep, keepAll, itemsKept, textOffset, textAt, textBehind, trackTextOf}
 use Rattle.area.specs.Units.{lsnAt}
 use Rattle.area.specs.declared.area.Area.{Area}
@@ -246,7 +246,7 @@ module _ (s t : List ℕ) (same : SameBehind s t) where
   SameEnds = (place : ℕ) → endOf s place ≡ endOf t place
 
   kept : SameEnds → (all : List Item) (before : ItemsKept) → keepAll s all before ≡ keepAll t all before
-  unfolding keepAll keep textPlace
+  unfolding keepAll keep placedText
   kept ends [] before = refl
   kept ends (item ∷ all) before = rw (ends (item .place)) (kept ends all (keep t item before))
 
@@ -343,7 +343,7 @@ module _ (s t : List ℕ) (same : SameBehind s t) where
     same-ends place = zeros-same-end s t place (same .same-length) begins
 
     text-place : (at : ℕ) → 8 ≤ at → textPlaceAt s at ≡ textPlaceAt t at
-    unfolding textPlaceAt isAbsent textPlace
+    unfolding textPlaceAt isAbsent placedText
     text-place at h =
         let offset = beAt t at 2 in
         rw (number at 2 h, string-present s offset, string-present t offset, begins offset, same-ends offset)

@@ -12,7 +12,8 @@ use lib.ListN.{length, getD, length-append, length-map, List·getD-append, List�
 use lib.Seq.{getD-append-add}
 use Rattle.area.specs.Capping.{Stands}
 use Rattle.area.specs.Tabulate.{tabulate}
-use Rattle.area.specs.WarningLaws.{flat-member, tabulate-member}
+use Rattle.area.specs.TabulateLaws.{tabulate-member}
+use Rattle.area.specs.WarningLaws.{flat-member}
 
 -- what stands at a place of a list is a member
 at-member : {W : Type 0} (ws : List W) (i : ℕ) (d : W) → i < length ws → List·Memᴰ (getD ws i d) ws

@@ -1,6 +1,7 @@
 -- Laws of `tabulate`, for any entry. Assumes nothing.
 use mathlib.Core.Path.{_≡_, refl, ap, _∙_}
-use mathlib.Core.List.{List, [], _∷_, _++_, map}
+use mathlib.Core.List.{List, [], _∷_, _++_, map, List·Memᴰ, List·Memᴰ·not-nil, List·Memᴰ·cases-cons}
+use mathlib.Core.Logic.{⊎-elim}
 use Prim.Native.Nat.{ℕ, zero, suc, _<_}
 use native.Mathlib.Omega.{arith}
 use lib.ListN.{length, getD}
@@ -40,6 +41,15 @@ module _ {A : Type 0} where
   tabulate-at zero f i d h = absurd (omega arith)
   tabulate-at (suc n) f zero d h = refl
   tabulate-at (suc n) f (suc i) d h = tabulate-at n (λ (k : ℕ). f (suc k)) i d (omega arith)
+
+  -- an entry is that of an index
+  pub tabulate-member : (n : ℕ) (f : ℕ → A) {x : A} → List·Memᴰ x (tabulate n f) → (k : ℕ) × ((k < n) × (x ≡ f k))
+  unfolding tabulate
+  tabulate-member zero f m = absurd (List·Memᴰ·not-nil m)
+  tabulate-member (suc n) f m =
+      ⊎-elim (λ e. (0, (omega arith, e)))
+      (λ later. let found = tabulate-member n (λ k. f (suc k)) later in let below = found .1 .0 in (suc (found .0), (omega arith, found .1 .1)))
+      (List·Memᴰ·cases-cons m)
 
 module _ {A B : Type 0} where
   -- a function of each entry

@@ -15,8 +15,8 @@ abbrev pub noTextPlace : TextPlace
 noTextPlace = record { place = 0; end = noEnd }
 
 -- "Every present text of a record that is a stored string passes that on.": how the string at its place ended
-unfoldable pub textPlace : List ℕ → ℕ → TextPlace
-textPlace table place = record { place = place; end = endOf table place }
+unfoldable pub placedText : List ℕ → ℕ → TextPlace
+placedText table place = record { place = place; end = endOf table place }
 
 -- whether no text stands at an offset: none does at 0
 unfoldable pub isAbsent : List ℕ → ℕ → Bool
@@ -24,7 +24,7 @@ isAbsent table offset = eqb offset 0 || not (present (stringAt table offset))
 
 -- the text whose offset stands in two bytes from a place on
 unfoldable pub textPlaceAt : List ℕ → ℕ → TextPlace
-textPlaceAt table at = cond (isAbsent table (beAt table at 2)) noTextPlace (textPlace table (beAt table at 2))
+textPlaceAt table at = cond (isAbsent table (beAt table at 2)) noTextPlace (placedText table (beAt table at 2))
 
 -- "such a text not ended by a zero byte": one that is present, and ended by another
 unfoldable pub isUnterminated : TextPlace → Bool

@@ -6,7 +6,7 @@ use lib.Dec.{leb, ltb, eqb}
 use lib.ListN.{length, set, replicate}
 use Rattle.sectors.specs.Number.{beAt}
 use Rattle.area.specs.Items.{Item, itemsFrom}
-use Rattle.area.specs.TextPlaces.{noTextPlace, textPlace}
+use Rattle.area.specs.TextPlaces.{noTextPlace, placedText}
 use Rattle.area.specs.Warning.{trackTextOffsetInvalid, trackTextTypeUnknown}
 use Rattle.area.specs.declared.text_places.TextPlace.{TextPlace}
 use Rattle.area.specs.declared.track_text.ItemsKept.{ItemsKept}
@@ -33,7 +33,7 @@ unfoldable pub keep : List ℕ → Item → ItemsKept → ItemsKept
 keep table item before =
     cond (eqb (item .len) 0) before
     (cond (ltb (itemIndex (item .kind)) trackTexts)
-    (record { places = set (before .places) (itemIndex (item .kind)) (textPlace table (item .place)); unknown = before .unknown })
+    (record { places = set (before .places) (itemIndex (item .kind)) (placedText table (item .place)); unknown = before .unknown })
     (record { places = before .places; unknown = true }))
 
 -- the items kept, one after the other

@@ -7,7 +7,7 @@ use crate::locale::MAX_LOCALES;
 use crate::locale::locales_at;
 use crate::locale::no_locale;
 use crate::text_places::AREA_TEXTS;
-use crate::text_places::NO_END;
+use crate::text_places::NO_TEXT;
 use crate::text_places::TextPlace;
 use crate::text_places::text_place_at;
 use crate::timecode::Timecode;
@@ -189,9 +189,6 @@ pub fn no_area() -> Area
         locale_count: 0,
         locales: [no_locale(); MAX_LOCALES],
         text_charset: 0,
-        text: [TextPlace {
-            place: 0,
-            end: NO_END,
-        }; AREA_TEXTS],
+        text: [NO_TEXT; AREA_TEXTS],
     }
 }

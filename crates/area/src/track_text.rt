@@ -4,13 +4,13 @@ ghost use Prim.Native.Nat.{_≤_, _<_};
 ghost use lib.ListN.{length};
 ghost use Rattle.area.specs.Limits.{maxTableBytes, maxTracks};
 ghost use Rattle.area.specs.TrackText.{itemIndex, itemsKept, noText, trackTextOf};
-use crate::text_places::NO_END;
+use crate::text_places::NO_TEXT;
 use crate::text_places::TRACK_TEXTS;
 use crate::text_places::TextPlace;
+use crate::text_places::text_at;
 use crate::warning::TRACK_TEXT_OFFSET_INVALID;
 use crate::warning::TRACK_TEXT_TYPE_UNKNOWN;
 use sectors::number::be16_at;
-use text::string::end_by;
 use text::string::string_bytes;
 
 // What text offset 0 is warned of: nothing.
@@ -44,10 +44,7 @@ fn items_kept(table: &[u8], place: usize, count: u8) -> ItemsKept
     requires { ⌜ length (now table) ≤ maxTableBytes ⌝ }
     ensures { λ r. ⌜ r ≡ itemsKept (now (table .entry)) place count ⌝ }
 {
-    let mut places = [TextPlace {
-        place: 0,
-        end: NO_END,
-    }; TRACK_TEXTS];
+    let mut places = [NO_TEXT; TRACK_TEXTS];
     let mut unknown = false;
     let mut q = place;
     let mut left = count;
@@ -59,10 +56,7 @@ fn items_kept(table: &[u8], place: usize, count: u8) -> ItemsKept
         let len = string_bytes(table, at).len();
         let index = item_index(table[q]);
         if (0 < len) & (index < TRACK_TEXTS) {
-            places[index] = TextPlace {
-                place: at as u32,
-                end: end_by(table.len(), at, len),
-            };
+            places[index] = text_at(table.len(), at as u32, len);
         } else if 0 < len {
             unknown = true;
         }
@@ -89,10 +83,7 @@ fn no_text(warning: u8) -> TrackText
     ensures { λ r. ⌜ r ≡ noText warning ⌝ }
 {
     TrackText {
-        places: [TextPlace {
-            place: 0,
-            end: NO_END,
-        }; TRACK_TEXTS],
+        places: [NO_TEXT; TRACK_TEXTS],
         warning,
     }
 }

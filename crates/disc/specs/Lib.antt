@@ -1,5 +1,6 @@
 pub mod Slot
 pub mod Master
+pub mod MasterLaws
 pub mod Warning
 pub mod Refusal
 pub mod Copies

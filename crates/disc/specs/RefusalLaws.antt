@@ -40,7 +40,7 @@ use Rattle.disc.specs.declared.master.MasterToc.{MasterToc}
 abbrev pub Foreign : ℕ → Type 0
 Foreign format = (format ≢ 0) × ((format ≢ 1) × (format ≢ 2))
 
--- "a lent buffer is below its size": "544,768 work bytes, 510 track records", "Warning buffers become 2,047 .. words." (02, item 5)
+-- "a lent buffer is below its size": "544,768 work bytes, 510 track records"; "Warning buffers become 2,047 and 1,021 words." (02, item 5)
 abbrev pub Short : Memory → Type 0
 Short memory = (length (memory .work) < 544768) ⊎ ((length (memory .tracks) < 510) ⊎ (length (memory .words) < 2047))
 

@@ -45,7 +45,7 @@ maxCopyWarnings = 1
 abbrev pub maxSlotWarnings : ℕ
 maxSlotWarnings = maxCopyWarnings + (maxHeadWarnings + maxTracks * maxTrackWarnings)
 
--- "warning words (32 bits)": for all of them. "Warning buffers become 2,047 .. words." (02, item 5; `words-asked` has the number)
+-- "warning words (32 bits)": for all of them. "Warning buffers become 2,047 and 1,021 words." (02, item 5): `words-asked` has the number
 abbrev pub warningWords : ℕ
 warningWords = maxDiscWarnings + 2 * maxSlotWarnings
 

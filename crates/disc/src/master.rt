@@ -7,7 +7,7 @@ use area::bytes::part_of;
 use area::locale::Locale;
 use area::locale::locale_or;
 use area::locale::no_locale;
-use area::text_places::NO_END;
+use area::text_places::NO_TEXT;
 use area::text_places::TextPlace;
 use area::text_places::text_place_at;
 use area::track::Genre;
@@ -186,10 +186,7 @@ fn disc_texts_at(table: &[u8]) -> [TextPlace; DISC_TEXTS]
     ensures { λ r. ⌜ r ≡ discTextsAt (now (table .entry)) ⌝ }
 {
     if !has_text(table) {
-        return [TextPlace {
-            place: 0,
-            end: NO_END,
-        }; DISC_TEXTS];
+        return [NO_TEXT; DISC_TEXTS];
     }
     let sector = part_of(table, SECTOR_SIZE, SECTOR_SIZE);
     [
@@ -298,10 +295,7 @@ pub(crate) fn no_master() -> MasterToc
         locale_count: 0,
         locales: [no_locale(); MAX_DISC_LOCALES],
         text_charset: 0,
-        text: [TextPlace {
-            place: 0,
-            end: NO_END,
-        }; DISC_TEXTS],
+        text: [NO_TEXT; DISC_TEXTS],
         manufacturer: 0,
     }
 }

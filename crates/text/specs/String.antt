@@ -38,11 +38,12 @@ endedByMaxBytes = 2
 abbrev pub endedByTableEnd : ℕ
 endedByTableEnd = 3
 
--- "Where 4,096 bytes reach just to the end of the table or to a zero byte, it says 4,096 bytes.": that is asked first. Of a string of so many bytes
--- at a place of a table of so many
+-- "Where 4,096 bytes reach just to the end of the table or to a zero byte, it says 4,096 bytes.": that is asked first. In a table of so many bytes, of
+-- the string at a place that has so many
 unfoldable pub endBy : ℕ → ℕ → ℕ → ℕ
 endBy size place len = cond (eqb len maxStringBytes) endedByMaxBytes (cond (ltb (place + len) size) endedByZeroByte endedByTableEnd)
 
+-- of the string at a place
 unfoldable pub endOf : List ℕ → ℕ → ℕ
 endOf table place = endBy (length table) place (length (stringAt table place))
 

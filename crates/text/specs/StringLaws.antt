@@ -97,9 +97,9 @@ module _ (table : List ℕ) (place : ℕ) where
   string-length = omega (arith, until-length (part place maxStringBytes table), part-size place maxStringBytes table)
 
   -- "at the end of its table"
-  pub string-end : length (stringAt table place) ≤ length table - place
+  pub string-within : length (stringAt table place) ≤ length table - place
   unfolding stringAt
-  string-end = omega (arith, until-length (part place maxStringBytes table), part-size place maxStringBytes table)
+  string-within = omega (arith, until-length (part place maxStringBytes table), part-size place maxStringBytes table)
 
   -- "Its bytes are handed back as a part of the caller's table."
   pub string-part : stringAt table place ≡ part place (length (stringAt table place)) table
@@ -162,6 +162,7 @@ module _ (table : List ℕ) (place : ℕ) where
 
 -- ---- how a string ended
 
+-- of a string of so many bytes at a place of a table of so many: 4,096 are asked first
 module _ (size place len : ℕ) where
   pub end-max : len ≡ maxStringBytes → endBy size place len ≡ endedByMaxBytes
   unfolding endBy
@@ -187,36 +188,25 @@ module _ (table : List ℕ) (place : ℕ) where
   unfolding endOf
   end-of bytes e = ap (λ (s : List ℕ). endBy size place (length s)) e
 
-  -- what the end is said to be, by the three cases
-  by-end : (P : ℕ → Type 0) → (n ≡ maxStringBytes → P endedByMaxBytes) → ((n ≡ maxStringBytes → ⊥) → place + n < size → P endedByZeroByte)
-      → ((n ≡ maxStringBytes → ⊥) → size ≤ place + n → P endedByTableEnd) → P (endOf table place)
+  -- What holds of 4,096 bytes where a string has so many, of the zero byte where fewer are followed by one, and of the table's end where fewer reach it,
+  -- holds of how the string ended.
+  pub by-end : (P : ℕ → Type 0) → (n ≡ maxStringBytes → P endedByMaxBytes)
+      → (n < maxStringBytes → place + n < size → getD table (place + n) 0 ≡ 0 → P endedByZeroByte)
+      → (n < maxStringBytes → size ≤ place + n → P endedByTableEnd) → P (endOf table place)
   by-end P max zero-byte table-end = go (ℕ-discrete n maxStringBytes) (ltb (place + n) size) refl
     where
       said : {end : ℕ} → endBy size place n ≡ end → P end → P (endOf table place)
       said e = subst P (sym e ∙ end-of (stringAt table place) refl)
 
+      fewer : (n ≡ maxStringBytes → ⊥) → n < maxStringBytes
+      fewer e = omega (arith, string-length table place)
+
       go : Dec (n ≡ maxStringBytes) → (t : Bool) → ltb (place + n) size ≡ t → P (endOf table place)
       go (yes e) t f = said (end-max size place n e) (max e)
-      go (no e) true f = let h = ltb-true (place + n) size f in said (end-zero size place n e h) (zero-byte e h)
-      go (no e) false f = let h = ltb-false (place + n) size f in said (end-table size place n e h) (table-end e h)
-
-  -- a string that says zero byte is followed by one
-  pub end-is-zero : endOf table place ≡ endedByZeroByte → getD table (place + n) 0 ≡ 0
-  end-is-zero =
-      by-end (λ end. end ≡ endedByZeroByte → getD table (place + n) 0 ≡ 0) (λ max e. absurd (omega (arith, e)))
-      (λ short inside e. string-zero table place (omega (arith, string-length table place)) (omega arith)) (λ short past e. absurd (omega (arith, e)))
-
-  -- one that says 4,096 bytes has as many
-  pub end-is-max : endOf table place ≡ endedByMaxBytes → n ≡ maxStringBytes
-  end-is-max =
-      by-end (λ end. end ≡ endedByMaxBytes → n ≡ maxStringBytes) (λ max e. max) (λ short inside e. absurd (omega (arith, e)))
-      (λ short past e. absurd (omega (arith, e)))
-
-  -- one that says end of table, and that begins in the table, reaches it
-  pub end-is-table : endOf table place ≡ endedByTableEnd → place ≤ size → place + n ≡ size
-  end-is-table =
-      by-end (λ end. end ≡ endedByTableEnd → place ≤ size → place + n ≡ size) (λ max e. absurd (omega (arith, e)))
-      (λ short inside e. absurd (omega (arith, e))) (λ short past e begins. omega (arith, string-end table place))
+      go (no e) true f =
+          let h = ltb-true (place + n) size f in
+          said (end-zero size place n e h) (zero-byte (fewer e) h (string-zero table place (fewer e) (omega arith)))
+      go (no e) false f = let h = ltb-false (place + n) size f in said (end-table size place n e h) (table-end (fewer e) h)
 
 -- ---- of two tables of the same length
 
@@ -235,7 +225,7 @@ string-no-longer s t place same zeros = go (ltb n m) refl
     go true e =
         let longer = ltb-true n m e in
         absurd (string-nonzero t place n longer
-        (zeros (place + n) (omega arith) (string-zero s place (omega (arith, string-length t place)) (omega (arith, string-end t place)))))
+        (zeros (place + n) (omega arith) (string-zero s place (omega (arith, string-length t place)) (omega (arith, string-within t place)))))
     go false e = ltb-false n m e
 
 -- where the zero bytes of both stand at the same places, their strings end in the same way

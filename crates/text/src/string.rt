@@ -57,17 +57,14 @@ pub fn string_bytes<'a>(table: &'a [u8], place: usize) -> &'a [u8]
     &window[..n]
 }
 
-// How the string of so many bytes ended that stands at a place of a table of so many.
+// How a string ended: in a table of so many bytes, of the string at a place that has so many.
 pub fn end_by(size: usize, place: usize, len: usize) -> u8
     ensures { λ r. ⌜ r ≡ endBy size place len ⌝ }
 {
     if len == MAX_STRING_BYTES {
         return ENDED_BY_MAX_BYTES;
     }
-    if size <= place {
-        return ENDED_BY_TABLE_END;
-    }
-    if len < size - place {
+    if len < size - lesser(place, size) {
         return ENDED_BY_ZERO_BYTE;
     }
     ENDED_BY_TABLE_END

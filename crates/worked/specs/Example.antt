@@ -80,8 +80,8 @@ twoBytes n = n / 2 ^ 8 ∷ n % 256 ∷ []
 -- The worked table with texts, of nine sectors. From 10,239 on stand 4,096 bytes and a zero byte, and then, from 14,336 on, 4,096 bytes up to the end.
 unfoldable pub endsTable : List ℕ
 endsTable =
-    -- an area text at 200, one at 14,336, one past the table's end, and none
-    fill 144 (twoBytes 200 ++ twoBytes 14336 ++ twoBytes 18433 ++ twoBytes 0)
+    -- an area text at 200, one at 14,336, one past the table's end, and an empty one
+    fill 144 (twoBytes 200 ++ twoBytes 14336 ++ twoBytes 18433 ++ twoBytes 204)
     (fill 200 (ascii "Area") exampleTable)
     -- the block at 6,144: the text of track 1 stands 4,085 behind
     ++ ascii "SACDTTxt" ++ twoBytes 4085 ++ replicate 4075 0

@@ -1,4 +1,5 @@
--- The worked table has the printed listing, and with two tracks it has their times: the definitions of the layers are computed. Assumes nothing.
+-- The worked table has the printed listing; with two tracks it has their times; with texts it says how they ended, and of which it warns: the
+-- definitions of the layers are computed. Assumes nothing.
 use mathlib.Core.Path.{_≡_, refl}
 use mathlib.Core.List.{List, map, flatMap}
 use lib.ListN.{replicate}
@@ -18,7 +19,7 @@ use Rattle.area.specs.Lone.{isOddTable, isShort, loneSlot, loneOf}
 use Rattle.area.specs.Skip.{listMissing, isMalformed, isReversed, skipBy, skipOf}
 use Rattle.area.specs.Table.{Table, frequencyWarnings, ofTrack, trackWarnings, readsOf, tracksOf, tracksWarnings, yieldOf, tableOf, withAddress, areaOf, areaGiven, tracksGiven, warningsOf}
 use Rattle.area.specs.Tabulate.{tabulate}
-use Rattle.area.specs.TextPlaces.{noTextPlace, textPlace, isAbsent, textPlaceAt, isUnterminated, anyUnterminated}
+use Rattle.area.specs.TextPlaces.{noTextPlace, placedText, isAbsent, textPlaceAt, isUnterminated, anyUnterminated}
 use Rattle.area.specs.Timecode.{timecodeAt, frameNumber}
 use Rattle.area.specs.Track.{storedTimes, cappedTimes, timesOf, isOutside, trackOf}
 use Rattle.area.specs.TrackText.{itemIndex, noPlaces, noItems, keep, keepAll, itemsKept, noText, textOf, textOffset, textAt, textBehind, trackTextOf}
@@ -56,7 +57,7 @@ pub example-ends : (textsOf (tableOf endsTable loneSlot 9) ≡ (endsAreaTexts, (
 unfolding
     ascii fourBytes twoBytes exampleTable storedTable endsTable endsAreaTexts endsTrackTexts loneWarning endsWarnings replacedTable replacedTrackTexts replacedWarnings areaGiven tracksGiven warningsOf tableOf yieldOf tracksWarnings tracksOf readsOf
     trackWarnings ofTrack anyUnterminated isUnterminated frequencyWarnings whenTrue skipOf skipBy listMissing isMalformed isReversed chainOf nothingKept walkFrom noted
-    firstKept sectorsOf structureAt recordOf kindOf areaTextsAt textPlaceAt textPlace isAbsent trackOf isOutside timesOf cappedTimes storedTimes trackTextOf textBehind textOffset
+    firstKept sectorsOf structureAt recordOf kindOf areaTextsAt textPlaceAt placedText isAbsent trackOf isOutside timesOf cappedTimes storedTimes trackTextOf textBehind textOffset
     textAt textOf itemsKept keepAll keep itemIndex noItems noPlaces itemsFrom itemAt nextItem nonzeroAt isZero endOf endBy stringAt untilZero nonzero present takeWhile capOf
     capped exceeds frameNumber timecodeAt lsnAt tabulate beAt signedAt same part fill flatMap
 example-ends = (refl, refl)

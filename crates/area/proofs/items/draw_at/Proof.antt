@@ -12,7 +12,7 @@ use borrow.Author.Needs.{needs}
 use borrow.Author.Tests.{eqb-true, eqb-false, ltb-true, ltb-false, lt-ltb, le-ltb}
 use Rattle.sectors.specs.NumberLaws.{be-byte}
 use Rattle.text.specs.String.{stringAt}
-use Rattle.text.specs.StringLaws.{string-end}
+use Rattle.text.specs.StringLaws.{string-within}
 use Rattle.area.specs.Items.{nonzeroAt, nextItem, drawnNone, drawAt}
 use Rattle.area.specs.ItemLaws.{draw-none, draw-short, draw-item}
 use Rattle.area.proofs.items.draw_at.Statement.{statement}
@@ -87,7 +87,7 @@ add-nonzero-at : tie.Need-add-nonzero-at
 add-nonzero-at c =
     let a = c .before .before .before .before .args in
     let some = some-left (a .left) (length (now (a .table))) (c .before .before .if1 .left) in
-    omega (arith, some .1, ap length (c .string-bytes .ensures .0), string-end (now (a .table)) (a .next + 2))
+    omega (arith, some .1, ap length (c .string-bytes .ensures .0), string-within (now (a .table)) (a .next + 2))
 
 nonzero-at-requires : tie.Need-nonzero-at-requires
 nonzero-at-requires c κs = search needs

@@ -1,27 +1,18 @@
 -- `area::text_places::any_unterminated` meets its contract: what was found so far, or is among the texts that are left, stays the same at each turn.
 -- Assumes nothing.
 use mathlib.Core.Path.{_≡_, refl, sym, ap, _∙_}
-use mathlib.Core.Bool.{Bool, true, false, not, _&&_, _||_}
-use mathlib.Core.List.{List, [], _∷_, map}
+use mathlib.Core.Bool.{Bool, true, false, _||_, or-assoc}
+use mathlib.Core.List.{List, _∷_}
 use Prim.Native.Nat.{ℕ, suc, _+_, _-_, _≤_, _<_}
 use native.Mathlib.Omega.{arith}
-use lib.Dec.{eqb}
-use lib.ListN.{length, getD, drop, length-map, drop-of-length-le}
+use lib.ListN.{length, getD, drop, drop-of-length-le}
 use lib.Seq.{drop-cons}
 use borrow.Author.Needs.{needs}
 use Rattle.area.specs.TextPlaces.{noTextPlace, isUnterminated, anyUnterminated}
 use Rattle.area.specs.declared.text_places.TextPlace.{TextPlace}
-use Rattle.area.proofs.text_places.TextPlace as P
+use Rattle.area.proofs.TextArray.{as-fields}
 use Rattle.area.proofs.text_places.any_unterminated.Statement.{statement}
 use Rattle.area.proofs.text_places.any_unterminated.Tie as tie
-
--- the length of an array of places is told of what they are as fields
-as-fields : (places : List TextPlace) (n : ℕ) → length (map (P.the-field .into) places) ≡ n → length places ≡ n
-as-fields places n e = sym (length-map places (P.the-field .into)) ∙ e
-
-or-then : (a b c : Bool) → (a || b || c) ≡ (a || (b || c))
-or-then true b c = refl
-or-then false b c = refl
 
 -- a turn: text i is looked at
 turn : (texts : List TextPlace) (any : Bool) (i : ℕ) → i < length texts → (any || anyUnterminated (drop i texts)) ≡ anyUnterminated texts
@@ -29,7 +20,7 @@ turn : (texts : List TextPlace) (any : Bool) (i : ℕ) → i < length texts → 
 unfolding anyUnterminated
 turn texts any i below leads =
     let next : i + 1 ≡ suc i = omega arith in
-    or-then any (isUnterminated (getD texts i noTextPlace)) (anyUnterminated (drop (i + 1) texts))
+    or-assoc any (isUnterminated (getD texts i noTextPlace)) (anyUnterminated (drop (i + 1) texts))
     ∙ ap (λ (rest : List TextPlace). any || anyUnterminated rest)
     (ap (λ (n : ℕ). getD texts i noTextPlace ∷ drop n texts) next ∙ sym (drop-cons texts i noTextPlace below))
     ∙ leads

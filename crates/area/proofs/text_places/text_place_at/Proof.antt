@@ -6,9 +6,10 @@ use Prim.Native.Nat.{ℕ}
 use denote.Ref.{now}
 use lib.Dec.{eqb, ltb}
 use lib.ListN.{length}
-use Rattle.text.specs.String.{stringAt, endOf}
-use Rattle.text.specs.StringLaws.{present-length, end-of}
-use Rattle.area.specs.TextPlaces.{isAbsent, textPlace, textPlaceAt}
+use Rattle.text.specs.String.{stringAt}
+use Rattle.text.specs.StringLaws.{present-length}
+use Rattle.area.specs.TextPlaces.{isAbsent, placedText, textPlaceAt}
+use Rattle.area.specs.TextPlaceLaws.{placed-text}
 use borrow.Author.Needs.{needs}
 use Rattle.area.proofs.text_places.text_place_at.Statement.{statement}
 use Rattle.area.proofs.text_places.text_place_at.Tie as tie
@@ -34,20 +35,17 @@ unfolding textPlaceAt
 returns c = let a = c .before .before .before .before .args in
     rw (absent (now (a .table)) _ _ _ (c .before .before .be16-at .ensures) (c .before .string-bytes .ensures .0) ∙ c .if1 .taken)
 
-cast-t11 : tie.Need-cast-t11
-cast-t11 c = search needs
+cast-text-at : tie.Need-cast-text-at
+cast-text-at c = search needs
 
-cast-end-by : tie.Need-cast-end-by
-cast-end-by c = search needs
-
-end-by-requires : tie.Need-end-by-requires
-end-by-requires c κs = search needs
+text-at-requires : tie.Need-text-at-requires
+text-at-requires c κs = search needs
 
 returns-2 : tie.Need-returns-2
-unfolding textPlaceAt textPlace
+unfolding textPlaceAt
 returns-2 c = let l = c .before in let table = now (l .before .before .before .before .args .table) in
     let e = l .before .before .be16-at .ensures in let string = l .before .string-bytes .ensures .0 in
-    rw (absent table _ _ _ e string ∙ l .if1 .left) (λ i. record { place = e i; end = (c .end-by .ensures ∙ end-of table _ _ string ∙ ap (endOf table) e) i })
+    rw (absent table _ _ _ e string ∙ l .if1 .left) (c .text-at .ensures ∙ placed-text table _ _ string ∙ ap (placedText table) e)
 
 pub text-place-at-spec : {M : Type 1} → statement M
 text-place-at-spec =
@@ -57,7 +55,6 @@ text-place-at-spec =
     cast-string-bytes
     string-bytes-requires
     returns
-    cast-t11
-    cast-end-by
-    end-by-requires
+    cast-text-at
+    text-at-requires
     returns-2)

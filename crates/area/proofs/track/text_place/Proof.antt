@@ -1,20 +1,14 @@
 -- `area::track::text_place` meets its contract: a track has 14 places, so that none stands at an index past them. Assumes nothing.
-use mathlib.Core.Path.{_≡_, sym, ap, _∙_}
-use Prim.Native.Nat.{ℕ}
-use mathlib.Core.List.{List, map}
+use mathlib.Core.Path.{_≡_, sym, ap}
 use native.Mathlib.Omega.{arith}
-use lib.ListN.{length, length-map, List·getD-eq-default}
+use lib.ListN.{length, List·getD-eq-default}
 use borrow.Author.Needs.{needs}
 use Rattle.area.specs.TextDecode.{placeOf}
 use Rattle.area.specs.TextPlaces.{noTextPlace}
 use Rattle.area.specs.declared.text_places.TextPlace.{TextPlace}
-use Rattle.area.proofs.text_places.TextPlace as P
+use Rattle.area.proofs.TextArray.{as-fields}
 use Rattle.area.proofs.track.text_place.Statement.{statement}
 use Rattle.area.proofs.track.text_place.Tie as tie
-
--- the length of an array of places is told of what they are as fields
-as-fields : (places : List TextPlace) (n : ℕ) → length (map (P.the-field .into) places) ≡ n → length places ≡ n
-as-fields places n e = sym (length-map places (P.the-field .into)) ∙ e
 
 returns : tie.Need-returns
 unfolding placeOf

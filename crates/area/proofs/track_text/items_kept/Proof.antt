@@ -13,10 +13,11 @@ use borrow.Author.Needs.{needs}
 use borrow.Author.Tests.{lt-ltb, le-ltb, ltb-true, ltb-false}
 use Rattle.sectors.specs.NumberLaws.{be-byte}
 use Rattle.text.specs.String.{stringAt}
-use Rattle.text.specs.StringLaws.{string-end, end-of}
+use Rattle.text.specs.StringLaws.{string-within}
 use Rattle.area.specs.TestLaws.{cond-same}
 use Rattle.area.specs.Items.{Item, itemAt, nonzeroAt, nextItem, itemsFrom}
 use Rattle.area.specs.ItemLaws.{nonzero-more, nonzero-found, nonzero-end, items-none, items-short, items-first}
+use Rattle.area.specs.TextPlaceLaws.{placed-text}
 use Rattle.area.specs.TrackText.{trackTexts, noPlaces, noItems, keep, keepAll, itemsKept}
 use Rattle.area.specs.declared.track_text.ItemsKept.{ItemsKept}
 use Rattle.area.proofs.Keeping.{full-and-known, keep-empty, keep-known, keep-unknown}
@@ -104,7 +105,7 @@ turned c =
     let kept : record { places = c .if3 .places; unknown = c .if3 .unknown } ≡ keep table item before =
     ⊎-elim
     (λ w. (λ i. record { places = w .2 i; unknown = w .3 i })
-    ∙ keep-known table item before (k .item-index .ensures) (w .0 .taken) (w .1 .ensures ∙ end-of table _ _ (s .ensures .0)))
+    ∙ keep-known table item before (k .item-index .ensures) (w .0 .taken) (w .1 .ensures ∙ placed-text table _ _ (s .ensures .0)))
     (⊎-elim
     (λ w. (λ i. record { places = w .2 i; unknown = w .3 i })
     ∙ keep-unknown table item before (k .item-index .ensures) (w .0 .left) (w .1 .taken))
@@ -132,11 +133,11 @@ shared-slice-read-item-index c = omega (arith, ltb-false)
 item-index-requires : tie.Need-item-index-requires Inv-loop μ-loop Inv-items μ-items
 item-index-requires c κs = search needs
 
-cast-t23 : tie.Need-cast-t23 Inv-loop μ-loop Inv-items μ-items
-cast-t23 c = omega (arith, ltb-false)
+cast-text-at : tie.Need-cast-text-at Inv-loop μ-loop Inv-items μ-items
+cast-text-at c = omega (arith, ltb-false)
 
-end-by-requires : tie.Need-end-by-requires Inv-loop μ-loop Inv-items μ-items
-end-by-requires c κs = search needs
+text-at-requires : tie.Need-text-at-requires Inv-loop μ-loop Inv-items μ-items
+text-at-requires c κs = search needs
 
 mul-places : tie.Need-mul-places Inv-loop μ-loop Inv-items μ-items
 mul-places c = let h = of-known-type (c .before) in search needs
@@ -151,7 +152,7 @@ add-q c =
       arith,
       ltb-false,
       ap length (k .before .before .string-bytes .ensures .0),
-      string-end (now (l .before .before .args .table)) (l .items .q + 2),
+      string-within (now (l .before .before .args .table)) (l .items .q + 2),
     )
 
 sub-left : tie.Need-sub-left Inv-loop μ-loop Inv-items μ-items
@@ -214,8 +215,8 @@ items-kept-spec =
     string-bytes-requires
     shared-slice-read-item-index
     item-index-requires
-    cast-t23
-    end-by-requires
+    cast-text-at
+    text-at-requires
     mul-places
     array-set-from-places
     add-q
