@@ -1,8 +1,9 @@
 //! A deterministic generator of images, of discs, of area tables, of texts and of questions about
-//! them: the same seed gives the same cases everywhere. `plain` walks over a table by the document, and
-//! `tape` gathers an image.
+//! them: the same seed gives the same cases everywhere. `plain` walks over a table by the document,
+//! `endings` says how strings end, and `tape` gathers an image.
 
 pub mod disc;
+pub mod endings;
 pub mod header;
 pub mod image;
 pub mod layout;

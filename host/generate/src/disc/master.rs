@@ -53,26 +53,25 @@ fn fill_fields(rng: &mut Rng, master: &mut [u8]) {
     master[138] = any_code(rng);
 }
 
-/// The sector of texts: strings, and offsets of them, of none, at and next to the sector's end, or
-/// any.
+/// The sector of texts: strings, and offsets of them, of none, of one up to the sector's end, at and next
+/// to that, or any.
 fn fill_texts(rng: &mut Rng, sector: &mut [u8]) {
     rng.fill(&mut sector[..STRINGS]);
     put(sector, 0, rng.pick(&[&b"SACDText"[..], b"SACDText", b"SACDText", b"SACDTexT", b""]));
-    put(sector, DATA - 3, &[0; 3]);
-    let last = rng.below(4) == 0;
-    put(sector, DATA - 3, if last { b"End" } else { b"\0\0n" });
+    let last = DATA - rng.pick(&[1, 1, 1, 3, 3, 100, 1500]);
+    sector[last..].fill_with(|| b'A' + rng.below(26) as u8);
     let mut free = STRINGS;
     for item in 0..TEXTS {
         let place = match rng.below(16) {
             0 | 1 => 0,
-            2 => rng.pick(&[DATA - 1, DATA - 3]),
+            2 => rng.pick(&[DATA - 1, last]),
             3 => rng.pick(&[DATA, DATA + 1, DATA + 8, 65_535]),
             4 => rng.below(DATA),
             5 => rng.word() as usize,
             _ => free,
         };
         let string = any_string(rng, false);
-        if place == free && free + string.len() < DATA - 3 {
+        if place == free && free + string.len() < last {
             put(sector, free, &string);
             free += string.len() + rng.below(3);
         }

@@ -1,8 +1,10 @@
 //! Disc images: a master table, its copies, and the table copies that it names, at every edge.
 
+mod made;
 mod master;
 mod slots;
 
+pub use made::most_warnings;
 pub use master::any_master;
 pub use slots::{Place, Pointer, Slot, any_slots};
 
@@ -59,6 +61,12 @@ impl Disc {
     pub fn master(&self) -> Vec<u8> {
         (MASTER..MASTER + MASTER_SECTORS).flat_map(|lsn| self.data(lsn)).copied().collect()
     }
+}
+
+/// The disc of a case: one in eight of the first is made for how strings end, any other at random.
+pub fn disc_of_case(rng: &mut Rng, case: u64) -> Disc {
+    let made = case.is_multiple_of(8).then(|| made::made(case as usize / 8)).flatten();
+    made.unwrap_or_else(|| any_disc(rng))
 }
 
 /// A disc of any format, mostly one that is accepted.

@@ -2,7 +2,7 @@
 
 use super::{Plan, put, put16, put32};
 use crate::Rng;
-use crate::text::any_code;
+use crate::text::{MOST, any_code};
 
 /// What the tracks of a table are held to.
 pub struct Range {
@@ -76,18 +76,20 @@ pub fn any_locale(rng: &mut Rng) -> [u8; 4] {
 }
 
 /// Names the places of the area's texts: of strings in the first sector, none, at and next to the
-/// table's end, or anywhere.
-pub fn place_texts(rng: &mut Rng, table: &mut [u8]) {
+/// table's end, or anywhere; where there is a long string, about 4,096 bytes before its end too.
+pub fn place_texts(rng: &mut Rng, table: &mut [u8], long: Option<usize>) {
     let mut free = 160;
     for item in 0..4 {
         let end = table.len();
-        let place = match rng.below(16) {
-            0..=2 => 0,
-            3 => end - 1,
-            4 => end,
-            5 => end + 1,
-            6 => rng.below(end),
-            7 => rng.word() as usize,
+        let before = rng.pick(&[MOST + 1, MOST, MOST, MOST - 1, 300, 1]);
+        let place = match (rng.below(16), long) {
+            (0..=2, _) => 0,
+            (3, _) => end - 1,
+            (4, _) => end,
+            (5, _) => end + 1,
+            (6, _) => rng.below(end),
+            (7, _) => rng.word() as usize,
+            (8..=12, Some(long)) => long - before,
             _ => free,
         };
         if place == free {

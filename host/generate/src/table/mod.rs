@@ -1,10 +1,12 @@
 //! Area tables: sub-structures in every order, fixed fields, tracks and their texts, at every edge.
 
+mod edges;
 mod head;
 mod lists;
 mod plan;
 mod texts;
 
+pub use edges::{ending, endings, most_warnings};
 pub(crate) use head::any_locale;
 pub use plan::{MOST_SECTORS, Plan, Structure, any_plan, orders, plans};
 pub(crate) use texts::any_string;
@@ -21,8 +23,8 @@ pub fn table(rng: &mut Rng, plan: &Plan) -> Vec<u8> {
         put(&mut table, at, structure.signature(rng));
         lists::fill(rng, &mut table, (structure, at), &range);
     }
-    texts::fill(rng, &mut table, plan, end.unwrap_or(DATA));
-    head::place_texts(rng, &mut table);
+    let long = texts::fill(rng, &mut table, plan, end.unwrap_or(DATA));
+    head::place_texts(rng, &mut table, long);
     head::damage(rng, &mut table);
     table
 }

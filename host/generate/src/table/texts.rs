@@ -11,13 +11,17 @@ use std::ops::Range;
 /// Types that no text has. A type 0 is met only in the first item: others begin at a nonzero byte.
 const UNKNOWN: [u8; 6] = [8, 127, 128, 136, 255, 0];
 
-/// Puts texts into the table, and their offsets into each block.
-pub fn fill(rng: &mut Rng, table: &mut [u8], plan: &Plan, end: usize) {
+/// Puts texts into the table, and their offsets into each block. Where a long string ends, if there is
+/// one.
+pub fn fill(rng: &mut Rng, table: &mut [u8], plan: &Plan, end: usize) -> Option<usize> {
     let blocks: Vec<_> =
         plan.structures().filter(|block| block.0 == Structure::TrackText).collect();
-    let Some(&(_, first)) = blocks.first() else { return };
+    let &(_, first) = blocks.first()?;
     let tracks = usize::from(plan.tracks);
-    let texts = put_texts(rng, table, first, tracks, end);
+    let mut rooms = [first + 518..(first + DATA).min(table.len()), end..table.len()];
+    let long = if rng.below(3) == 0 { put_long(rng, table, &mut rooms[1]) } else { None };
+    let mut texts: Vec<_> = long.iter().map(|long| long.text).collect();
+    put_texts(rng, table, tracks, &mut rooms, &mut texts);
     for &(_, block) in &blocks {
         for track in 0..tracks {
             let text = texts.iter().copied().cycle().nth(track);
@@ -25,21 +29,20 @@ pub fn fill(rng: &mut Rng, table: &mut [u8], plan: &Plan, end: usize) {
             put16(table, block + 8 + 2 * track, offset);
         }
     }
+    long.map(|long| long.end)
 }
 
 /// Puts a text for each track into the table, as long as there is room: tracks without one share
-/// those of others. Their places, not all in order.
+/// those of others. Adds their places, not all in order.
 fn put_texts(
     rng: &mut Rng,
     table: &mut [u8],
-    block: usize,
     tracks: usize,
-    end: usize,
-) -> Vec<usize> {
-    let mut rooms = [block + 518..(block + DATA).min(table.len()), end..table.len()];
-    let mut texts = vec![];
+    rooms: &mut [Range<usize>; 2],
+    texts: &mut Vec<usize>,
+) {
     if rng.below(3) == 0
-        && let Some(place) = put_last(rng, table, &mut rooms)
+        && let Some(place) = put_last(rng, table, rooms)
     {
         texts.push(place);
     }
@@ -56,7 +59,45 @@ fn put_texts(
         let by = rng.below(texts.len());
         texts.rotate_left(by);
     }
-    texts
+}
+
+/// A text with a string of about 4,096 bytes: where it begins, and where that string ends.
+struct Long {
+    text: usize,
+    end: usize,
+}
+
+/// Puts such a text at the room's end or its start.
+fn put_long(rng: &mut Rng, table: &mut [u8], room: &mut Range<usize>) -> Option<Long> {
+    let (bytes, end) = any_long_text(rng);
+    if bytes.len() > room.len() {
+        return None;
+    }
+    let text = if rng.below(2) == 0 { room.start } else { room.end - bytes.len() };
+    *room = if text == room.start { text + bytes.len()..room.end } else { room.start..text };
+    put(table, text, &bytes);
+    Some(Long { text, end: text + end })
+}
+
+/// A few items, one of them with a string of about 4,096 bytes, and where that ends; with zeros behind
+/// each string, or with none. Types come again.
+fn any_long_text(rng: &mut Rng) -> (Vec<u8>, usize) {
+    let items = rng.pick(&[1, 2, 2, 3]);
+    let long = rng.below(items);
+    let mut text = vec![rng.pick(&[items as u8, items as u8, 255]), rng.byte(), rng.byte(), 0];
+    let (mut kind, mut end) = (0, 0);
+    for item in 0..items {
+        kind = if item > 0 && rng.below(3) == 0 { kind } else { any_kind(rng, kind) };
+        text.extend([kind, rng.pick(&[0, 1, 255])]);
+        let length = match item == long {
+            true => rng.pick(&[MOST - 1, MOST, MOST, MOST + 1, MOST + 2, MOST + 40]),
+            false => rng.below(8),
+        };
+        text.extend(std::iter::repeat_with(|| any_letter(rng, false)).take(length));
+        end = if item == long { text.len() } else { end };
+        text.extend([0; 2].iter().take(rng.pick(&[0, 0, 1, 2])));
+    }
+    (text, end)
 }
 
 /// Puts a text that goes to the table's end: its last string has no zero behind it, or its last
@@ -64,11 +105,11 @@ fn put_texts(
 fn put_last(rng: &mut Rng, table: &mut [u8], rooms: &mut [Range<usize>; 2]) -> Option<usize> {
     let mut text = any_track_text(rng, false);
     text[0] = rng.pick(&[text[0].saturating_add(1), 255]);
-    match rng.below(4) {
+    match rng.below(6) {
         0 => text.extend([rng.pick(&[1, 9])]),
         1 => text.extend([rng.pick(&[1, 9]), 1]),
         2 => text.extend([rng.pick(&[1, 9]), 0]),
-        _ => text.extend([2, 0, b'E', b'n', b'd']),
+        _ => text.extend([any_kind(rng, 2), 0, b'E', b'n', b'd']),
     }
     let room = rooms.iter_mut().find(|room| room.end == table.len() && text.len() <= room.len())?;
     room.end -= text.len();
