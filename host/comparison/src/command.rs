@@ -2,14 +2,15 @@
 
 use crate::disc::answer::read;
 use crate::disc::dump::{dump, refusal};
-use crate::disc::dumps::differing;
+use crate::disc::dumps::{differing, drop_unterminated, unterminated_lines};
 use crate::progress::Progress;
 use crate::rust::format_number;
 use crate::tally::Kind;
 use crate::threads::{in_threads, sums};
 use generate::Rng;
-use generate::disc::{Disc, any_disc};
-use oracle::disc::detected;
+use generate::disc::{Disc, disc_of_case};
+use generate::layout::layout;
+use oracle::disc::{Disc as Rust, Stored, detected};
 use std::fs;
 use std::io;
 use std::ops::Range;
@@ -30,7 +31,9 @@ const WORDS: [(u8, &str); 5] = [
 
 /// What a run of the command gave.
 struct Ran {
+    /// Without the warnings 19, which are the next.
     out: String,
+    unterminated: Vec<String>,
     error: String,
     status: Option<i32>,
 }
@@ -68,7 +71,7 @@ pub fn kinds(seed: u64, discs: u64) -> io::Result<Vec<Kind>> {
 impl Run {
     fn new(tables: &Path, file: PathBuf) -> Self {
         let refusals = ["accepted", "refusal 3", "refusal 4", "refusal 5", "refusal 6"];
-        let formats = ["format 0", "format 1", "format 2"];
+        let formats = ["format 0", "format 1", "format 2", "19 dropped"];
         let given = [&refusals[..], &formats, &["refusal 1"]].concat();
         let none = ["no format found", "refusal 3 without a format", "refusal 4 without a format"];
         let found = [&refusals[..], &formats, &["another than given"], &none].concat();
@@ -82,7 +85,7 @@ impl Run {
 
     fn cases(&mut self, seed: u64, cases: Range<u64>, progress: &Progress) -> io::Result<()> {
         for case in cases {
-            let disc = any_disc(&mut Rng::of_case(seed, case));
+            let disc = disc_of_case(&mut Rng::of_case(seed, case), case);
             fs::write(&self.file, &disc.bytes)?;
             self.given(case, &disc)?;
             self.found(case, disc)?;
@@ -96,7 +99,7 @@ impl Run {
         let rust = read(disc);
         let format = disc.format.to_string();
         let ours = self.run(&["--format", &format])?;
-        let theirs = self.expected(refusal(rust.as_ref()), dump(rust.as_ref()));
+        let theirs = self.expected(disc, rust.as_ref());
         compare(&mut self.with_format, (case, disc), refusal(rust.as_ref()), &ours, &theirs);
         Ok(())
     }
@@ -107,9 +110,10 @@ impl Run {
         let given = disc.format;
         let format = detected(&disc.bytes).map(format_number);
         disc.format = format.unwrap_or(0);
+        disc.form = layout(disc.format).unwrap_or(disc.form);
         let rust = read(&disc);
         let refusal = refusal(rust.as_ref());
-        let theirs = self.expected(refusal, dump(rust.as_ref()));
+        let theirs = self.expected(&disc, rust.as_ref());
         let kind = &mut self.without_format;
         compare(kind, (case, &disc), refusal, &ours, &theirs);
         kind.class_if("no format found", format.is_none());
@@ -123,24 +127,28 @@ impl Run {
         let output =
             Command::new(&self.tables).arg("--dump").args(words).arg(&self.file).output()?;
         let text = |bytes: &[u8]| String::from_utf8_lossy(bytes).into_owned();
-        let (out, error) = (text(&output.stdout), text(&output.stderr));
-        Ok(Ran { out, error, status: output.status.code() })
+        let (out, unterminated) = drop_unterminated(&text(&output.stdout));
+        let error = text(&output.stderr);
+        Ok(Ran { out, unterminated, error, status: output.status.code() })
     }
 
     /// What a run must give: a refusal names the image, and has its word.
-    fn expected(&self, refusal: u8, out: String) -> Ran {
+    fn expected(&self, disc: &Disc, rust: Option<&(Rust, Stored)>) -> Ran {
+        let refusal = refusal(rust);
         let word = WORDS.iter().find(|(number, _)| *number == refusal);
         let line = |(number, word)| format!("{}: refused {number}: {word}\n", self.file.display());
         let error = word.copied().map(line).unwrap_or_default();
-        Ran { out, error, status: Some(i32::from(refusal != 0)) }
+        let (out, unterminated) = (dump(rust), unterminated_lines(disc, rust));
+        Ran { out, unterminated, error, status: Some(i32::from(refusal != 0)) }
     }
 }
 
 fn compare(kind: &mut Kind, (case, disc): (u64, &Disc), refusal: u8, ours: &Ran, theirs: &Ran) {
     let [our_line, their_line] = differing(&ours.out, &theirs.out);
     let question = ("case", case, "format", disc.format, "bytes", disc.bytes.len());
-    let answer = |ran: &Ran, line| (ran.status, ran.error.clone(), line);
+    let answer = |ran: &Ran, line| (ran.status, ran.error.clone(), line, ran.unterminated.clone());
     kind.case(&question, refusal, answer(ours, our_line), answer(theirs, their_line));
+    kind.class("19 dropped", theirs.unterminated.len());
     for (format, class) in [(0, "format 0"), (1, "format 1"), (2, "format 2")] {
         kind.class_if(class, refusal == 0 && disc.format == format);
     }

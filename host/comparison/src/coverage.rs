@@ -1,6 +1,7 @@
 //! The table of what a run covered, as the documents have it.
 
 use crate::disc::{CODES, READS};
+use crate::endings::{OF_DISCS as ENDS_OF_DISCS, OF_TABLES as ENDS_OF_TABLES};
 use crate::tally::Kind;
 use crate::tracks::{OF_DISCS, OF_TABLES};
 use crate::values::Taken;
@@ -10,7 +11,7 @@ use scarletbook::{Refusal, WarningCode};
 type Line = (String, &'static str, String);
 
 /// The lines of a run over discs, but for refusals and warnings.
-const DISCS: [(&str, &str, &str); 34] = [
+const DISCS: [(&str, &str, &str); 40] = [
     ("images in format 0", READS, "image of format 0"),
     ("images in format 1", READS, "image of format 1"),
     ("images in format 2", READS, "image of format 2"),
@@ -35,6 +36,9 @@ const DISCS: [(&str, &str, &str); 34] = [
     ("discs with tracks", OF_DISCS, "discs with tracks"),
     ("tracks of discs, each with its stored times", OF_DISCS, ""),
     ("tracks of discs that are capped", OF_DISCS, "capped"),
+    ("tracks of discs with warning 19", ENDS_OF_DISCS, "19"),
+    ("their texts ended by 4,096 bytes", ENDS_OF_DISCS, "by 4,096 bytes"),
+    ("their texts ended by the table's end", ENDS_OF_DISCS, "by the end"),
     ("disc texts", "disc texts", ""),
     ("area texts", "disc area texts", ""),
     ("track texts", "disc track texts", ""),
@@ -45,6 +49,9 @@ const DISCS: [(&str, &str, &str); 34] = [
     ("lone tables with tracks", OF_TABLES, "tables with tracks"),
     ("tracks of lone tables, each with its stored times", OF_TABLES, ""),
     ("tracks of lone tables that are capped", OF_TABLES, "capped"),
+    ("tracks of lone tables with warning 19", ENDS_OF_TABLES, "19"),
+    ("their texts ended by 4,096 bytes", ENDS_OF_TABLES, "by 4,096 bytes"),
+    ("their texts ended by the table's end", ENDS_OF_TABLES, "by the end"),
 ];
 
 /// The lines of the table, for a document.
@@ -113,6 +120,7 @@ fn numbers_are_grouped() {
 fn every_line_has_its_class() {
     let mut kinds = crate::disc::kinds(1, 0);
     kinds.push(crate::tracks::Tracks::of_tables().stored);
+    kinds.push(crate::endings::Endings::of_tables().tracks);
     for (words, kind, class) in lines().iter().filter(|line| line.1 != "read_table") {
         let kind = kinds.iter().find(|other| other.name == *kind).expect(words);
         let known = class.is_empty() || kind.classes.iter().any(|other| other.0 == class);

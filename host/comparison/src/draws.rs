@@ -6,15 +6,18 @@ use crate::rust;
 use crate::sectors::Buffer;
 use crate::tally::Kind;
 use generate::Rng;
+use generate::endings::end_at;
 use generate::table::Structure;
 use generate::text::any_string;
 use oracle::toc::TrackTextItem;
-use scarletbook::raw::{DrawAnswer, TextPlace, Track, draw_at};
+use scarletbook::raw::{DrawAnswer, TextPlace, Track, draw_at, string_end};
 
-/// What draws to the end give: the items, and the texts of the last nonempty of each known type.
+/// What draws to the end give: the items, how the string of each ended, and the texts of the last nonempty
+/// of each known type.
 #[derive(Debug, PartialEq)]
 struct Text {
     items: Vec<Item>,
+    ends: Vec<u8>,
     places: [TextPlace; 14],
     texts: Vec<Option<String>>,
 }
@@ -57,12 +60,13 @@ impl Draws {
         code: u8,
     ) {
         let items = drawn_to_the_end(table, at + 4, table[at].into());
-        let places = plain::places(&items);
+        let places = plain::places(table, &items);
         let decoded = places.iter().map(|text| match text.place {
             0 => None,
             place => rust::decode(plain::string_at(table, place as usize), code),
         });
-        let library = Text { items, places, texts: decoded.collect() };
+        let ends = items.iter().map(|item| string_end(table, item.place)).collect();
+        let library = Text { items, ends, places, texts: decoded.collect() };
         let items = plain::track_items(table, Some(at));
         let count = items.len();
         let kind = &mut self.text;
@@ -72,7 +76,8 @@ impl Draws {
         kind.class_if("empty", items.iter().any(|item| item.len == 0));
         kind.class_if("unknown", items.iter().any(|item| plain::index(item.kind).is_none()));
         kind.class_if("repeated", items.windows(2).any(|two| two[0].kind == two[1].kind));
-        let rust = Text { items, places: record.text, texts };
+        let ends = items.iter().map(|item| end_at(table, item.place)).collect();
+        let rust = Text { items, ends, places: record.text, texts };
         kind.case(&("table", Buffer(table), "text at", at), 0, library, rust);
     }
 

@@ -114,7 +114,7 @@ pub fn patterned_tracks(salt: usize, count: usize) -> Vec<Track> {
 }
 
 /// The words that give a record a value in each field.
-pub const TRACK_WORDS: usize = 26;
+pub const TRACK_WORDS: usize = 30;
 
 pub fn track_of(words: &[u32; TRACK_WORDS]) -> Track {
     let byte = |at: usize| words[at / 4].to_le_bytes()[at % 4];
@@ -136,7 +136,7 @@ pub fn track_of(words: &[u32; TRACK_WORDS]) -> Track {
         isrc: FixedText { bytes: std::array::from_fn(|at| byte(20 + at)), len: byte(36) },
         has_genre: byte(37),
         genre: Genre { category: byte(38), index: byte(39) },
-        text: std::array::from_fn(|item| TextPlace { place: text[item] }),
+        text: std::array::from_fn(|item| TextPlace { place: text[item], end: byte(46 + item) }),
     }
 }
 

@@ -2,8 +2,8 @@
 
 use crate::plain;
 use crate::rust::{FAILED, one_a_character, padded};
+use generate::endings::{Warning, put_in, unterminated};
 use generate::table::Structure;
-use oracle::error::Warning;
 use oracle::lone::{Times, numbers, read_timed, slot_number};
 use oracle::toc::{self, AreaKind};
 use scarletbook::raw::{
@@ -16,6 +16,8 @@ pub struct Lone {
     refusal: u8,
     /// Nothing for a table that is skipped.
     pub rust: Option<toc::Area>,
+    /// The words of the Rust's warnings, and of all: with those of 19 by the walk.
+    pub rust_words: Vec<u32>,
     pub words: Vec<u32>,
     pub area: Area,
     pub tracks: Vec<Track>,
@@ -28,12 +30,17 @@ impl Lone {
             Ok((None, warnings)) => (6, None, warnings),
             Err(_) => (FAILED, None, vec![]),
         };
-        let words = warnings.iter().map(word).collect();
+        let tracks = read.as_ref().map_or(0, |(area, _)| area.tracks.len());
+        let warnings: Vec<_> = warnings.iter().map(numbers).collect();
+        let rust_words = warnings.iter().copied().map(word).collect();
+        let all = put_in(&warnings, &unterminated(table, 1, tracks));
+        let words = all.into_iter().map(word).collect();
         let Some((rust, times)) = read else {
-            return Lone { refusal, rust: None, words, area: Area::default(), tracks: vec![] };
+            let (area, tracks) = (Area::default(), vec![]);
+            return Lone { refusal, rust: None, rust_words, words, area, tracks };
         };
         let (area, tracks) = (area_record(table, &rust), track_records(table, &rust, &times));
-        Lone { refusal, rust: Some(rust), words, area, tracks }
+        Lone { refusal, rust: Some(rust), rust_words, words, area, tracks }
     }
 
     pub fn answer(&self) -> TableAnswer {
@@ -41,8 +48,8 @@ impl Lone {
     }
 }
 
-pub fn word(warning: &Warning) -> u32 {
-    let [code, slot, track] = numbers(warning).map(u32::from);
+pub fn word(warning: Warning) -> u32 {
+    let [code, slot, track] = warning.map(u32::from);
     code * 65_536 + slot * 256 + track
 }
 
@@ -100,13 +107,13 @@ fn timecode(time: toc::Timecode) -> Timecode {
 pub fn track_records(table: &[u8], area: &toc::Area, times: &[Times]) -> Vec<Track> {
     let block = plain::first_of(&plain::met(table), Structure::TrackText);
     let records = area.tracks.iter().zip(times).enumerate().map(|(i, (track, times))| Track {
-        text: plain::places(&plain::track_items(table, plain::text_at(table, block, i))),
+        text: plain::places(table, &plain::track_items(table, plain::text_at(table, block, i))),
         ..track_record(track, *times)
     });
     records.collect()
 }
 
-/// The record of a track, without the places of its texts.
+/// The record of a track, without its texts.
 fn track_record(track: &toc::Track, (start, duration): Times) -> Track {
     let (bytes, len) = padded(&one_a_character(track.isrc.as_deref().unwrap_or_default()));
     let genre = track.genre.map(|toc::Genre { category, index }| Genre { category, index });

@@ -10,6 +10,7 @@ mod coverage;
 mod cuts;
 mod disc;
 mod draws;
+mod endings;
 mod extent;
 mod fields;
 mod guard;
@@ -37,6 +38,7 @@ mod tracks;
 mod values;
 
 use draws::Draws;
+use endings::Endings;
 use extent::Extent;
 use fields::Fields;
 use generate::Rng;
@@ -72,11 +74,11 @@ fn all(options: &Options) -> Vec<Kind> {
     let Extent { sector_count, contains } = extent;
     let Sectors { read, compare, fingerprint, audit, mend } = sectors;
     let Numbers { byte, be16, be32, product, digest } = numbers;
-    let Strings { string_bytes, decode } = strings;
+    let Strings { string_bytes, string_end, decode } = strings;
     let Fields { charset, language, fixed_bytes, fixed_text } = fields;
     let sectors = [sector_count, contains, read, compare, fingerprint, audit, mend];
     let numbers = [product, digest, byte, be16, be32];
-    let texts = [string_bytes, charset, decode, fixed_bytes, fixed_text, language];
+    let texts = [string_bytes, string_end, charset, decode, fixed_bytes, fixed_text, language];
     let times = [times.frame_number, times.cap];
     let tape = tape::kinds(options.seed, options.tapes);
     let sectors = sectors.into_iter().chain(headers(options)).chain(tape);
@@ -113,11 +115,14 @@ fn texts(options: &Options) -> (Fields, Strings, Times) {
 fn areas(options: &Options) -> Vec<Kind> {
     let (mut tables, mut texts, mut draws) = (Tables::new(), Texts::new(), Draws::new());
     let plans = table::plans();
-    for case in 0..plans.len() as u64 + options.tables {
-        let mut rng = Rng::of_case(options.seed, case);
-        let table = match plans.get(case as usize) {
-            Some(plan) => table::table(&mut rng, plan),
-            None => table::any_table(&mut rng),
+    // Four times, so that one of them is lent enough.
+    let made = [table::endings(), vec![table::most_warnings(); 4]].concat();
+    for case in 0..plans.len() + made.len() + options.tables as usize {
+        let mut rng = Rng::of_case(options.seed, case as u64);
+        let table = match (plans.get(case), made.get(case.wrapping_sub(plans.len()))) {
+            (Some(plan), _) => table::table(&mut rng, plan),
+            (None, Some(made)) => made.clone(),
+            (None, None) => table::any_table(&mut rng),
         };
         if let Some(lone) = tables.case(&mut rng, &table) {
             texts.cases(&mut rng, &table, &lone);
@@ -131,11 +136,13 @@ fn areas(options: &Options) -> Vec<Kind> {
     for case in 0..options.texts {
         draws.any_case(&mut Rng::of_case(options.seed, case));
     }
-    let Tables { read, heads, shapes, tracks: handed } = tables;
+    let Tables { read, heads, shapes, tracks: handed, endings } = tables;
     let Shapes { walk, head, tracks, items, .. } = shapes;
     let Texts { area, track, lies } = texts;
-    let records = [read, handed.stored, handed.capping, heads, walk, head, tracks, items];
-    records.into_iter().chain([area, track, lies, draws.text, draws.any]).collect()
+    let Endings { lists, tracks: ended, areas } = endings;
+    let records = [read, handed.stored, handed.capping, lists, ended, areas];
+    let shapes = [heads, walk, head, tracks, items];
+    records.into_iter().chain(shapes).chain([area, track, lies, draws.text, draws.any]).collect()
 }
 
 /// Says what is compared, and compares it.

@@ -54,7 +54,7 @@ const FULL: Options = Options {
     headers: 1_000_000,
     tapes: 1_000,
     texts: 100_000,
-    tables: 60_000,
+    tables: 80_000,
     cuts: 1_100,
     exact: false,
 };

@@ -15,12 +15,13 @@ type Met = [(Structure, usize)];
 
 const SKIPS: [(u32, &str); 4] = [(8, "skip 8"), (9, "skip 9"), (10, "skip 10"), (11, "skip 11")];
 
-const WARNINGS: [(u32, &str); 5] = [
+const WARNINGS: [(u32, &str); 6] = [
     (12, "warning 12"),
     (13, "warning 13"),
     (14, "warning 14"),
     (15, "warning 15"),
     (18, "warning 18"),
+    (19, "warning 19"),
 ];
 
 const TWICE: [(Structure, &str); 5] = [
@@ -74,7 +75,7 @@ fn head_kind() -> Kind {
 fn tracks_kind() -> Kind {
     let times = ["sum is the play time", "sum one above", "start above", "start at it, 0"];
     let lsns = ["start LSN", "end LSN", "below the start LSN", "above the end LSN"];
-    let listed = ["ISRC", "no ISRC", "no IGL", "three warnings"];
+    let listed = ["ISRC", "no ISRC", "no IGL", "three warnings", "four warnings"];
     let offsets = ["offset 0", "last offset", "offset one past", "no TTxt"];
     let classes = [&times[..], &lsns[..], &listed[..], &offsets[..]];
     Kind::new("tables, tracks", &classes.concat())
@@ -216,8 +217,9 @@ fn count_times(kind: &mut Kind, table: &[u8], lone: &Lone, met: &Met, track: usi
     kind.class_if("start above", start > playtime);
     kind.class_if("start at it, 0", start == playtime && duration == 0);
     let number = track as u32 + 1;
-    let warnings = lone.words.iter().filter(|&&word| word & 255 == number);
-    kind.class_if("three warnings", warnings.count() == 3);
+    let warnings = lone.words.iter().filter(|&&word| word & 255 == number).count();
+    kind.class_if("three warnings", warnings == 3);
+    kind.class_if("four warnings", warnings == 4);
 }
 
 fn count_lists(kind: &mut Kind, lone: &Lone, met: &Met, track: usize) {

@@ -1,10 +1,11 @@
-//! Stored strings as parts of a table, and their decoding into a page.
+//! Stored strings as parts of a table, how they ended, and their decoding into a page.
 
 use crate::guard::Guarded;
 use crate::rust;
 use crate::sectors::Buffer;
 use crate::tally::Kind;
 use generate::Rng;
+use generate::endings::{MOST_BYTES, TABLE_END, ZERO_BYTE, end_at};
 use generate::text::{MOST, any_code, any_page_length, any_string, any_text};
 use generate::text::{single_texts, utf8_length};
 use scarletbook::raw::DecodeAnswer;
@@ -46,6 +47,7 @@ struct Question<'a> {
 
 pub struct Strings {
     pub string_bytes: Kind,
+    pub string_end: Kind,
     pub decode: Kind,
 }
 
@@ -54,6 +56,8 @@ impl Strings {
         let ends = ["before a zero", "to the table's end", "at a zero"];
         let last = ["4,095 before a zero", "4,095 to the end"];
         let full = ["4,096 before a zero", "4,096 to the end", "4,096 of 4,097", "4,096 of more"];
+        let next = ["4,097 before a zero", "4,097 to the end"];
+        let ended = ["by a zero byte", "by 4,096 bytes", "by the end"];
         let out = ["at the end", "just behind the end", "far out", "largest place", "no table"];
         let sets = ["refusal 9", "set 3", "set 4", "set 5", "set 6", "set above 7"];
         let absent = ["absent in Latin-1", "absent in set 3 to 6", "Latin-1 above 7"];
@@ -65,6 +69,10 @@ impl Strings {
             string_bytes: Kind::new(
                 "string_bytes",
                 &[&ends[..], &last[..], &full[..], &out[..]].concat(),
+            ),
+            string_end: Kind::new(
+                "string_end",
+                &[&ends[..], &last[..], &full[..], &next[..], &out[..], &ended[..]].concat(),
             ),
             decode: Kind::new(
                 "decode",
@@ -83,8 +91,15 @@ impl Strings {
         }
     }
 
-    /// Every code, every byte, and one other byte in every place of a text, in short pages.
+    /// Strings next to 4,096 bytes; every code, every byte, and one other byte in every place of a text, in
+    /// short pages.
     pub fn all(&mut self) {
+        for length in [0, 1, 2, MOST - 2, MOST - 1, MOST, MOST + 1, MOST + 2, 2 * MOST] {
+            for behind in [&b""[..], b"\0", b"\0\0", b"\0s"] {
+                let table = [&b"\0s"[..], &vec![b's'; length], behind].concat();
+                (0..4).for_each(|place| self.string_case(&table, place));
+            }
+        }
         for byte in 0..=255 {
             for page in 0..=6 {
                 self.decode_case(b"ab \x1f\xe9", byte, page, 0);
@@ -118,6 +133,13 @@ impl Strings {
         let question = ("table", Buffer(table), "place", place);
         kind.case(&question, 0, library, part(table, string, string.len()));
         count_string(kind, table, place, string.len());
+        let kind = &mut self.string_end;
+        let end = end_at(table, place);
+        kind.case(&question, 0, scarletbook::raw::string_end(table, place), end);
+        count_string(kind, table, place, string.len());
+        kind.class_if("by a zero byte", end == ZERO_BYTE);
+        kind.class_if("by 4,096 bytes", end == MOST_BYTES);
+        kind.class_if("by the end", end == TABLE_END);
     }
 
     pub fn decode_case(&mut self, bytes: &[u8], code: u8, page: usize, salt: usize) {
@@ -157,6 +179,9 @@ fn count_string(kind: &mut Kind, table: &[u8], place: usize, length: usize) {
     kind.class_if("4,096 to the end", length == MOST && end);
     let behind = rest.iter().skip(length).take_while(|&&byte| byte != 0).count();
     kind.class_if("4,096 of 4,097", length == MOST && behind == 1);
+    let to_the_end = rest.len() == length + behind;
+    kind.class_if("4,097 before a zero", length == MOST && behind == 1 && !to_the_end);
+    kind.class_if("4,097 to the end", length == MOST && behind == 1 && to_the_end);
     kind.class_if("4,096 of more", length == MOST && behind > 1);
     kind.class_if("at the end", place == table.len() && place > 0);
     kind.class_if("just behind the end", place == table.len() + 1);

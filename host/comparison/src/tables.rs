@@ -1,5 +1,6 @@
 //! Lone tables: the record, the tracks and the warnings, and all that is lent.
 
+use crate::endings::Endings;
 use crate::guard::{Differing, Guarded};
 use crate::heads;
 use crate::lone::Lone;
@@ -43,14 +44,15 @@ pub struct Tables {
     pub heads: Kind,
     pub shapes: Shapes,
     pub tracks: Tracks,
+    pub endings: Endings,
 }
 
 impl Tables {
     pub fn new() -> Self {
         let odd = ["refusal 7", "no bytes", "262,145 bytes", "264,192 bytes", "2,047 bytes"];
-        let short = ["refusal 2", "254 records", "765 words", "no records", "no words"];
+        let short = ["refusal 2", "254 records", "1,020 words", "no records", "no words"];
         let order = ["7 before 2", "2 before 6"];
-        let room = ["255 records", "766 words", "longer records", "longer words"];
+        let room = ["255 records", "1,021 words", "longer records", "longer words"];
         let edges = ["accepted", "refusal 6", "262,144 bytes", "2,048 bytes", "half accepted"];
         Tables {
             read: Kind::new(
@@ -60,6 +62,7 @@ impl Tables {
             heads: heads::kind(),
             shapes: Shapes::new(),
             tracks: Tracks::of_tables(),
+            endings: Endings::of_tables(),
         }
     }
 
@@ -104,8 +107,12 @@ impl Tables {
         let skipped = lone.is_some_and(|lone| lone.rust.is_none());
         kind.class_if("2 before 6", expected.refusal == 2 && skipped);
         let rust = written(&expected, lone);
-        let handed = Handed { area: answer.area, tracks: &ours.tracks, rust };
-        self.tracks.table(&question, handed, first(&ours.words, answer.warnings));
+        let handed = Handed { area: answer.area, tracks: &ours.tracks, rust, table };
+        let words = first(&ours.words, answer.warnings);
+        if let Some(lone) = lone.filter(|_| matches!(expected.refusal, 0 | 6)) {
+            self.endings.case(&question, std::slice::from_ref(&handed), words, &lone.rust_words);
+        }
+        self.tracks.table(&question, handed, words);
     }
 
     /// Counts whether at least half of the tables are accepted.
@@ -168,11 +175,11 @@ fn count(kind: &mut Kind, bytes: usize, records: usize, words: usize, refusal: u
     kind.class_if("2,047 bytes", bytes == DATA - 1);
     kind.class_if("7 before 2", refusal == 7 && short);
     kind.class_if("254 records", refusal == 2 && records == 254 && words >= TABLE_WORDS);
-    kind.class_if("765 words", refusal == 2 && words == 765 && records >= MAX_TRACKS);
+    kind.class_if("1,020 words", refusal == 2 && words == 1020 && records >= MAX_TRACKS);
     kind.class_if("no records", refusal == 2 && records == 0);
     kind.class_if("no words", refusal == 2 && words == 0);
     kind.class_if("255 records", refusal == 0 && records == MAX_TRACKS);
-    kind.class_if("766 words", refusal == 0 && words == TABLE_WORDS);
+    kind.class_if("1,021 words", refusal == 0 && words == 1021);
     kind.class_if("longer records", refusal == 0 && records > MAX_TRACKS);
     kind.class_if("longer words", refusal == 0 && words > TABLE_WORDS);
     kind.class_if("262,144 bytes", refusal == 0 && bytes == MOST);

@@ -195,7 +195,7 @@ fn found<'a>(lent: &Lent<'a>, which: Which) -> (u8, &'a [u8]) {
 fn lie(rng: &mut Rng, area: &mut Area, tracks: &mut Vec<Track>, table: &mut Vec<u8>) {
     let (end, any) = (table.len(), rng.below(6000));
     let places = [end, end + 1, end.saturating_sub(1), u32::MAX as usize, any];
-    let place = rng.pick(&places) as u32;
+    let text = TextPlace { place: rng.pick(&places) as u32, end: rng.byte() };
     match rng.below(12) {
         0 => area.origin.toc_sectors = rng.pick(&[129, 200, 65_535]),
         1 => {
@@ -206,16 +206,14 @@ fn lie(rng: &mut Rng, area: &mut Area, tracks: &mut Vec<Track>, table: &mut Vec<
             let sectors = rng.below(1 + end / DATA);
             area.origin.toc_sectors = sectors as u16;
             put(table, (sectors * DATA).saturating_sub(2), b"cut");
-            area.text.fill(TextPlace { place: (sectors * DATA).saturating_sub(1) as u32 });
+            let place = (sectors * DATA).saturating_sub(1) as u32;
+            area.text.fill(TextPlace { place, ..text });
         }
         3 => table.truncate(end.saturating_sub(1)),
         4 => table.extend(b"behind the table"),
         5 => area.track_count = rng.pick(&[255, 256, 300, 65_535]),
-        6 => area.text.fill(TextPlace { place }),
-        7 | 8 => {
-            let places = [TextPlace { place }; TRACK_TEXTS];
-            tracks.iter_mut().for_each(|track| track.text = places);
-        }
+        6 => area.text.fill(text),
+        7 | 8 => tracks.iter_mut().for_each(|track| track.text.fill(text)),
         9 => area.present = rng.pick(&[0, 2, 255]),
         10 => area.origin.slot = rng.pick(&[0, 2, 3, 255]),
         _ => tracks.resize(rng.pick(&[0, 254, 254, 256]), Track::default()),

@@ -29,6 +29,8 @@ pub struct Handed<'a> {
     /// From its first track on.
     pub tracks: &'a [Track],
     pub rust: &'a [Track],
+    /// The bytes of its table.
+    pub table: &'a [u8],
 }
 
 /// Each track is a case of both.
@@ -70,7 +72,7 @@ impl Tracks {
     }
 
     fn area(&mut self, question: &dyn Debug, handed: Handed, words: &[u32]) {
-        let Handed { area, tracks, rust } = handed;
+        let Handed { area, tracks, rust, .. } = handed;
         for (at, track) in tracks.iter().take(area.track_count.into()).enumerate() {
             let question = (question, area.playtime, track);
             self.stored.case(&question, 0, Some(stored(track)), rust.get(at).map(stored));
@@ -116,8 +118,8 @@ fn other_stored_times_and_a_wrong_cap_are_found() {
     let right = [1, 2].map(|number| Track { number, ..Track::default() });
     let differences = |library: [Track; 2], rust: &[Track]| {
         let mut tracks = Tracks::of_discs();
-        let second = Handed { area, tracks: &library, rust };
-        let first = Handed { area: Area::default(), tracks: &library, rust: &[] };
+        let second = Handed { area, tracks: &library, rust, table: &[] };
+        let first = Handed { area: Area::default(), tracks: &library, rust: &[], table: &[] };
         tracks.disc(&"a disc", [first, second], &[]);
         assert_eq!((tracks.stored.cases, tracks.stored.count("slot 2")), (2, 2));
         [tracks.stored.differences, tracks.capping.differences]

@@ -13,8 +13,9 @@ const MOST: usize = 16;
 
 const FLAG: &[u64] = &[0, 1];
 
-/// The fields that have few values: each must take every one of these, and no other.
-const FEW: [(&str, &[u64]); 30] = [
+/// The fields that have few values, `[*]` standing for every entry of an array: each must take every one of
+/// these, and no other.
+const FEW: [(&str, &[u64]); 32] = [
     ("comparison.refusal", &[0, 1, 2, 8]),
     ("comparison.equal", FLAG),
     ("fingerprint_answer.refusal", &[0, 1, 8]),
@@ -27,6 +28,9 @@ const FEW: [(&str, &[u64]); 30] = [
     ("cap_answer.past_playtime", FLAG),
     ("draw_answer.found", FLAG),
     ("language_code.len", &[0, 1, 2]),
+    ("text_place.end", &[0, 1, 2, 3]),
+    // A disc's texts stand in 2,048 bytes.
+    ("master_toc.text[*].end", &[0, 1, 3]),
     ("area.present", FLAG),
     ("area.kind", &[0, 1, 2]),
     ("track.has_isrc", FLAG),
@@ -173,9 +177,16 @@ impl Taken {
     }
 }
 
+/// Whether a field has a name, or is in the entries that one stands for.
+fn is_named(field: &str, name: &str) -> bool {
+    let Some((before, behind)) = name.split_once("[*]") else { return field == name };
+    let entry = field.strip_prefix(before).and_then(|field| field.strip_suffix(behind));
+    entry.is_some_and(|entry| entry.starts_with('[') && entry.find(']') == Some(entry.len() - 1))
+}
+
 /// Nothing if a field takes the values asked for.
 fn scant(number: &Number, values: &BTreeSet<u64>) -> Option<String> {
-    let few = number.names.iter().find_map(|name| FEW.iter().find(|few| few.0 == name));
+    let few = number.names.iter().find_map(|name| FEW.iter().find(|few| is_named(name, few.0)));
     let asked = match few {
         Some((_, few)) if values.iter().eq(*few) => return None,
         Some((_, few)) => format!("{few:?}"),
@@ -190,7 +201,8 @@ fn every_name_of_few_values_is_a_field() {
     let records = records::records();
     let names = || records.iter().flat_map(|record| &record.1).map(Number::name);
     for (name, _) in FEW {
-        assert_eq!(names().filter(|other| *other == name).count(), 1, "{name}");
+        let count = if name.contains("[*]") { 16 } else { 1 };
+        assert_eq!(names().filter(|other| is_named(other, name)).count(), count, "{name}");
     }
 }
 

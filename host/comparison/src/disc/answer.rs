@@ -4,10 +4,12 @@ use crate::lone::{area_record, locale_record, track_records, word};
 use crate::plain;
 use crate::rust::{FAILED, format_number, one_a_character, padded, sector_format};
 use generate::disc::{Disc, MASTER, MASTER_SECTORS};
+use generate::endings::{self, put_in};
 use generate::layout::DATA;
 use generate::table::MOST_SECTORS;
 use oracle::disc::{Disc as Rust, Stored, read_stored};
 use oracle::error::{Slot, Warning};
+use oracle::lone::{numbers, slot_number};
 use oracle::toc::{self, DiscText, Toc};
 use scarletbook::raw::{
     Area, AreaPointer, Date, DiscAnswer, FixedText, GENRES, Genre, Locale, Lsn, MASTER_LOCALES,
@@ -22,6 +24,8 @@ pub struct Answer {
     /// All zero with a refusal other than 6; its texts are the next.
     pub master: MasterToc,
     pub text: DiscText,
+    /// The words of the Rust's warnings, and of all: with those of 19 by the walk.
+    pub rust_words: Vec<u32>,
     pub words: Vec<u32>,
     /// The chosen table copy of each slot, as the next two.
     pub tables: [Option<Vec<u8>>; 2],
@@ -51,15 +55,18 @@ impl Answer {
     /// What nothing but a refusal is known of.
     pub fn refused(refusal: u8) -> Self {
         let (master, text) = Default::default();
+        let (rust_words, words) = Default::default();
         let (tables, areas, tracks) = Default::default();
-        Answer { refusal, toc: None, master, text, words: vec![], tables, areas, tracks }
+        Answer { refusal, toc: None, master, text, rust_words, words, tables, areas, tracks }
     }
 
     fn silent(disc: &Disc, master: &toc::MasterToc, warnings: &[Warning]) -> Self {
+        let words: Vec<_> = warnings.iter().map(|warning| word(numbers(warning))).collect();
         Answer {
             master: master_record(disc, master),
             text: master.text.clone(),
-            words: warnings.iter().map(word).collect(),
+            rust_words: words.clone(),
+            words,
             tables: Slot::ALL.map(|slot| chosen(disc, pointer_record(master.pointer(slot)))),
             ..Answer::refused(6)
         }
@@ -74,6 +81,9 @@ impl Answer {
                 answer.tracks[at] = track_records(table, area, &stored.times(area));
             }
         }
+        let warnings: Vec<_> = warnings.iter().map(numbers).collect();
+        let all = put_in(&warnings, &unterminated(disc, &toc));
+        answer.words = all.into_iter().map(word).collect();
         answer.toc = Some(toc);
         answer
     }
@@ -94,6 +104,17 @@ impl Answer {
             multichannel,
         }
     }
+}
+
+/// The warnings 19 of an accepted disc, by the walk.
+pub fn unterminated(disc: &Disc, toc: &Toc) -> Vec<endings::Warning> {
+    let areas = Slot::ALL.into_iter().filter_map(|slot| toc.area(slot));
+    let warnings = areas.flat_map(|area| {
+        let table = chosen(disc, pointer_record(toc.master.pointer(area.slot)));
+        let table = table.as_deref().unwrap_or_default();
+        endings::unterminated(table, slot_number(area.slot), area.tracks.len())
+    });
+    warnings.collect()
 }
 
 /// Whether the sectors from an address on are all in the image.

@@ -130,23 +130,20 @@ fn lie(rng: &mut Rng, area: &mut Area, lent: &mut Lent) {
     let sectors = usize::from(area.origin.toc_sectors).min(MOST_SECTORS);
     let (end, any) = (sectors * DATA, rng.below(6000));
     let places = [end.saturating_sub(1), end, end + 1, MOST - 1, MOST, u32::MAX as usize, any];
-    let place = rng.pick(&places) as u32;
+    let text = TextPlace { place: rng.pick(&places) as u32, end: rng.byte() };
     match rng.below(11) {
         0 => area.origin.toc_sectors = rng.pick(&[127, 128, 129, 200, 65_535]),
         1 => area.origin.toc_sectors = rng.below(sectors + 1) as u16,
         2 => area.track_count = rng.pick(&[0, 1, 255, 256, 300, 65_535]),
-        3 => area.text.fill(TextPlace { place }),
-        4 | 5 => {
-            let places = [TextPlace { place }; TRACK_TEXTS];
-            lent.tracks.iter_mut().for_each(|track| track.text = places);
-        }
+        3 => area.text.fill(text),
+        4 | 5 => lent.tracks.iter_mut().for_each(|track| track.text.fill(text)),
         6 => area.present = rng.pick(&[0, 1, 2, 255]),
         7 => area.origin.slot = rng.pick(&[0, 1, 2, 2, 3, 255]),
         8 => area.text_charset = rng.byte(),
         9 => {
             let region = rng.pick(&REGIONS[..2]);
             put(&mut lent.work, region + end.saturating_sub(2), b"cut");
-            area.text.fill(TextPlace { place: end.saturating_sub(1) as u32 });
+            area.text.fill(TextPlace { place: end.saturating_sub(1) as u32, ..text });
         }
         _ => {
             let at = rng.below(WORK_BYTES - 64);
@@ -159,11 +156,12 @@ fn lie(rng: &mut Rng, area: &mut Area, lent: &mut Lent) {
 fn lie_of_disc(rng: &mut Rng, master: &mut MasterToc, lent: &mut Lent) {
     let any = rng.below(DATA);
     let place = rng.pick(&[DATA - 2, DATA - 1, DATA, DATA + 1, 65_535, u32::MAX as usize, any]);
+    let end = rng.byte();
     match rng.below(4) {
-        0 => master.text.fill(TextPlace { place: place as u32 }),
+        0 => master.text.fill(TextPlace { place: place as u32, end }),
         1 => {
             put(&mut lent.work, REGIONS[2] + 2 * DATA - 3, b"cut here");
-            master.text.fill(TextPlace { place: (DATA - 2) as u32 });
+            master.text.fill(TextPlace { place: (DATA - 2) as u32, end });
         }
         2 => master.text_charset = rng.byte(),
         _ => {}

@@ -12,6 +12,7 @@ pub mod texts;
 
 pub use reads::{CODES, READS};
 
+use crate::endings::Endings;
 use crate::progress::Progress;
 use crate::tally::Kind;
 use crate::threads::{in_threads, sums};
@@ -19,7 +20,7 @@ use answer::Answer;
 use dumps::Dumps;
 use formats::Formats;
 use generate::Rng;
-use generate::disc::any_disc;
+use generate::disc::disc_of_case;
 use lies::Lies;
 use memory::Memory;
 use reads::Reads;
@@ -95,7 +96,7 @@ impl Run {
 
     fn case(&mut self, rng: &mut Rng, case: u64) {
         let Tallies { formats, reads, dumps, shapes, texts, lies } = &mut self.tallies;
-        let disc = any_disc(rng);
+        let disc = disc_of_case(rng, case);
         let memory = &mut self.memories[rng.below(2)];
         formats.case(case, &disc, &disc.bytes);
         let rust = answer::read(&disc);
@@ -112,11 +113,12 @@ impl Run {
 
 impl Tallies {
     fn kinds(self) -> Vec<Kind> {
-        let Reads { read, codes, tracks } = self.reads;
+        let Reads { read, codes, tracks, endings, disc_ends } = self.reads;
+        let Endings { lists, tracks: ended, areas } = endings;
         let Shapes { copies, slots, master } = self.shapes;
         let Texts { disc, area, track } = self.texts;
-        let records = [read, codes, tracks.stored, tracks.capping, copies, slots, master];
-        let found = [self.formats.kind, self.dumps.kind];
-        records.into_iter().chain(found).chain([disc, area, track, self.lies.kind]).collect()
+        let records = [read, codes, tracks.stored, tracks.capping, lists, ended, areas, disc_ends];
+        let shapes = [copies, slots, master, self.formats.kind, self.dumps.kind];
+        records.into_iter().chain(shapes).chain([disc, area, track, self.lies.kind]).collect()
     }
 }

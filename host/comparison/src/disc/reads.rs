@@ -2,6 +2,7 @@
 
 use super::answer::Answer;
 use super::memory::{Lent, Memory, Room};
+use crate::endings::{self, Endings};
 use crate::rust::sector_format;
 use crate::tables::first;
 use crate::tally::Kind;
@@ -26,7 +27,7 @@ const IMAGES: [(u32, &str); 3] =
     [(0, "image of format 0"), (1, "image of format 1"), (2, "image of format 2")];
 
 /// Each warning that comes from a disc; 16 is none of them.
-const WARNINGS: [(u32, &str); 17] = [
+const WARNINGS: [(u32, &str); 18] = [
     (1, "warning 1"),
     (2, "warning 2"),
     (3, "warning 3"),
@@ -44,6 +45,7 @@ const WARNINGS: [(u32, &str); 17] = [
     (15, "warning 15"),
     (17, "warning 17"),
     (18, "warning 18"),
+    (19, "warning 19"),
 ];
 
 #[derive(Debug)]
@@ -60,6 +62,9 @@ pub struct Reads {
     /// Each refusal, and each warning once for an image.
     pub codes: Kind,
     pub tracks: Tracks,
+    pub endings: Endings,
+    /// The ends of the disc's own texts.
+    pub disc_ends: Kind,
 }
 
 impl Reads {
@@ -67,8 +72,8 @@ impl Reads {
         let formats = ["format 0", "format 1", "format 2"];
         let images = IMAGES.map(|image| image.1);
         let domain = ["foreign image", "in the domain", "not in the domain"];
-        let short = ["544,767 bytes", "509 records", "1,536 words", "no bytes", "no words"];
-        let more = ["longer work", "longer records", "longer words", "no records"];
+        let short = ["544,767 bytes", "509 records", "2,046 words", "no bytes", "no words"];
+        let more = ["longer work", "longer records", "2,047 words", "longer words", "no records"];
         let order = ["1 before 2", "2 before 3", "2 before 6", "3 before 4"];
         let cuts = ["inside a sector", "whole sectors", "cut inside a sector"];
         let counts = ["519 sectors", "520 sectors", "no image"];
@@ -90,6 +95,8 @@ impl Reads {
             read: Kind::new(READS, &read.concat()),
             codes: Kind::new(CODES, &[&REFUSALS[..], &warnings].concat()),
             tracks: Tracks::of_discs(),
+            endings: Endings::of_discs(),
+            disc_ends: endings::disc_kind(),
         }
     }
 
@@ -132,7 +139,14 @@ impl Reads {
         let question = Question { case, format: disc.format, bytes: disc.bytes.len(), room };
         self.read.case(&question, answer.refusal, ours, theirs);
         let words = first(&memory.ours.words, library.warnings);
-        self.tracks.disc(&question, handed(&library, &memory.ours, &answer), words);
+        let handed = handed(&library, &memory.ours, &answer);
+        if matches!(answer.refusal, 0 | 6) {
+            self.endings.case(&question, &handed, words, &answer.rust_words);
+            let (kind, master) = (&mut self.disc_ends, disc.master());
+            let read = (&master[..], words);
+            endings::disc_case(kind, &question, answer.refusal, &library.master, read);
+        }
+        self.tracks.disc(&question, handed, words);
         self.count(disc, room, &answer);
         matches!(answer.refusal, 0 | 6).then_some(answer)
     }
@@ -158,12 +172,13 @@ impl Reads {
         let exact = Room::EXACT;
         kind.class_if("544,767 bytes", refusal == 2 && room.work == exact.work - 1);
         kind.class_if("509 records", refusal == 2 && room.tracks == exact.tracks - 1);
-        kind.class_if("1,536 words", refusal == 2 && room.words == exact.words - 1);
+        kind.class_if("2,046 words", refusal == 2 && room.words == 2046);
         kind.class_if("no bytes", refusal == 2 && room.work == 0);
         kind.class_if("no records", refusal == 2 && room.tracks == 0);
         kind.class_if("no words", refusal == 2 && room.words == 0);
         kind.class_if("longer work", refusal == 0 && room.work > exact.work);
         kind.class_if("longer records", refusal == 0 && room.tracks > exact.tracks);
+        kind.class_if("2,047 words", refusal == 0 && room.words == 2047);
         kind.class_if("longer words", refusal == 0 && room.words > exact.words);
         let inside = !disc.bytes.len().is_multiple_of(disc.form.stored);
         kind.class_if("inside a sector", refusal == 0 && inside);
@@ -197,6 +212,7 @@ fn handed<'a>(library: &DiscAnswer, lent: &'a Lent, rust: &'a Answer) -> [Handed
         area: areas[slot],
         tracks: &lent.tracks[FIRST_TRACKS[slot]..],
         rust: &rust.tracks[slot],
+        table: rust.tables[slot].as_deref().unwrap_or_default(),
     })
 }
 

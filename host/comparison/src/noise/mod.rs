@@ -11,6 +11,7 @@ use crate::disc::lies::Lies;
 use crate::disc::memory::Memory;
 use crate::disc::reads::Reads;
 use crate::disc::texts::Texts;
+use crate::endings::Endings;
 use crate::guard::Guarded;
 use crate::progress::Progress;
 use crate::strings::Strings;
@@ -33,6 +34,7 @@ const SHORT: u64 = 2_000;
 /// The bytes of a string that are decoded at most.
 const DECODED: usize = 5000;
 
+const ENDS: [&str; 2] = ["by a zero byte", "by the end"];
 const TEXTS: [&str; 4] = ["present", "absent", "refusal 9", "refusal 10"];
 const RECORDS: [&str; 5] = ["accepted", "refusal 2", "refusal 8", "refusal 9", "refusal 10"];
 const DECODING: [&str; 3] = ["refusal 9", "refusal 10", "longer page"];
@@ -79,6 +81,8 @@ impl Run {
                 read: Kind::new("as images", &[&refusals[..], &discs].concat()),
                 codes: Kind::new("their codes", &[]),
                 tracks: tracks("their stored times", "their capping", "discs with tracks"),
+                endings: endings("their lists", "their endings", "their area ends"),
+                disc_ends: Kind::new("their disc ends", &ENDS),
             },
             dumps: Dumps { kind: Kind::new("their dumps", &["accepted", "refusal 6", "lines"]) },
             texts: Texts {
@@ -90,6 +94,7 @@ impl Run {
             tables: Tables {
                 read: Kind::new("as lone tables", &lone),
                 tracks: tracks("lone stored times", "lone capping", "tables with tracks"),
+                endings: endings("lone lists", "lone endings", "lone area ends"),
                 ..Tables::new()
             },
             lone_texts: LoneTexts {
@@ -176,13 +181,31 @@ impl Run {
     fn kinds(self) -> Vec<Kind> {
         let LoneTexts { area, track, lies } = self.lone_texts;
         let Texts { disc, area: disc_area, track: disc_track } = self.texts;
-        let Tracks { stored, capping } = self.reads.tracks;
-        let Tracks { stored: lone_stored, capping: lone_capping } = self.tables.tracks;
-        let images = [self.formats.kind, self.reads.read, stored, capping, self.dumps.kind];
-        let texts = [disc, disc_area, disc_track, self.records.kind];
-        let tables = [self.tables.read, lone_stored, lone_capping, area, track, lies];
-        let strings = [self.strings.decode, self.lent, self.decoded];
-        images.into_iter().chain(texts).chain(tables).chain(strings).collect()
+        let [images, tables] = [self.reads.read, self.tables.read];
+        let images = [self.formats.kind, images]
+            .into_iter()
+            .chain(handed(self.reads.tracks, self.reads.endings));
+        let texts =
+            [self.reads.disc_ends, self.dumps.kind, disc, disc_area, disc_track, self.records.kind];
+        let tables = [tables].into_iter().chain(handed(self.tables.tracks, self.tables.endings));
+        let rest = [area, track, lies, self.strings.decode, self.lent, self.decoded];
+        images.chain(texts).chain(tables).chain(rest).collect()
+    }
+}
+
+/// The kinds of what readings hand back.
+fn handed(tracks: Tracks, endings: Endings) -> [Kind; 5] {
+    let Tracks { stored, capping } = tracks;
+    let Endings { lists, tracks, areas } = endings;
+    [stored, capping, lists, tracks, areas]
+}
+
+/// Endings by the names of their kinds. Few random bytes go on to a table's end, none for 4,096.
+fn endings(lists: &'static str, tracks: &'static str, areas: &'static str) -> Endings {
+    Endings {
+        lists: Kind::new(lists, &["no 19"]),
+        tracks: Kind::new(tracks, &ENDS[..1]),
+        areas: Kind::new(areas, &ENDS[..1]),
     }
 }
 

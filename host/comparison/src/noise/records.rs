@@ -70,10 +70,10 @@ pub fn any_master(rng: &mut Rng) -> MasterToc {
     }
 }
 
-/// Small as often as large.
+/// Small as often as large, and with any end.
 fn any_place(rng: &mut Rng) -> TextPlace {
     let bits = rng.below(32);
-    TextPlace { place: rng.word() as u32 >> bits }
+    TextPlace { place: rng.word() as u32 >> bits, end: rng.byte() }
 }
 
 fn any_locale(rng: &mut Rng) -> Locale {
