@@ -154,8 +154,8 @@ fn equal_lsns() {
 fn short_buffers() {
     let mut work = blank_work();
     let mut less_work = short_work();
-    let mut words = [0u32; 1537];
-    let mut less_words = [0u32; 1536];
+    let mut words = [0u32; 2047];
+    let mut less_words = [0u32; 2046];
     io::write_all(STDOUT_FILENO, b"short_buffers\n");
     print_refusal(&mut less_work, &mut words);
     print_refusal(&mut work, &mut less_words);
