@@ -8,11 +8,15 @@ use area::area::Area;
 use area::area::TableOrigin;
 use area::locale::Locale;
 use area::locale::MAX_LOCALES;
+use area::text_places::AREA_TEXTS;
+use area::text_places::TRACK_TEXTS;
+use area::text_places::TextPlace;
 use area::timecode::Timecode;
 use area::track::Genre;
 use area::track::Track;
 use area::track::TrackTimes;
 use disc::master::AreaPointer;
+use disc::master::DISC_TEXTS;
 use disc::master::Date;
 use disc::master::GENRES;
 use disc::master::MAX_DISC_LOCALES;
@@ -78,6 +82,35 @@ fn put_area_locales(locales: [Locale; MAX_LOCALES]) {
     }
 }
 
+// Writes how a text ended. Where it stands is not written: the Rust has no places.
+fn put_end(text: TextPlace) {
+    put_u8(text.end);
+}
+
+fn put_disc_ends(texts: [TextPlace; DISC_TEXTS]) {
+    let mut k = 0;
+    while k < DISC_TEXTS {
+        put_end(texts[k]);
+        k += 1;
+    }
+}
+
+fn put_area_ends(texts: [TextPlace; AREA_TEXTS]) {
+    let mut k = 0;
+    while k < AREA_TEXTS {
+        put_end(texts[k]);
+        k += 1;
+    }
+}
+
+fn put_track_ends(texts: [TextPlace; TRACK_TEXTS]) {
+    let mut k = 0;
+    while k < TRACK_TEXTS {
+        put_end(texts[k]);
+        k += 1;
+    }
+}
+
 // What a master record has of the album.
 fn put_album(master: MasterToc) {
     let version = master.version;
@@ -95,6 +128,7 @@ fn put_album(master: MasterToc) {
 pub(crate) fn put_master(master: MasterToc) {
     let genres = master.disc_genres;
     let locales = master.locales;
+    let texts = master.text;
     io::write_all(STDOUT_FILENO, b"master");
     put_album(master);
     put_pointer(master.two_channel);
@@ -108,6 +142,7 @@ pub(crate) fn put_master(master: MasterToc) {
     put_u8(master.locale_count);
     put_disc_locales(locales);
     put_u8(master.text_charset);
+    put_disc_ends(texts);
     put_u8(master.manufacturer);
     end_line();
 }
@@ -156,6 +191,7 @@ fn put_audio(area: Area) {
 // Writes the line of an area's record.
 pub(crate) fn put_area(area: Area) {
     let locales = area.locales;
+    let texts = area.text;
     io::write_all(STDOUT_FILENO, b"area");
     put_format(area);
     put_audio(area);
@@ -163,6 +199,7 @@ pub(crate) fn put_area(area: Area) {
     put_u8(area.locale_count);
     put_area_locales(locales);
     put_u8(area.text_charset);
+    put_area_ends(texts);
     end_line();
 }
 
@@ -178,6 +215,7 @@ fn put_times(times: TrackTimes) {
 // Writes the line of a track.
 pub(crate) fn put_track(track: Track) {
     let lsn = track.start_lsn;
+    let texts = track.text;
     io::write_all(STDOUT_FILENO, b"track");
     put_u8(track.number);
     put_u32(lsn.0);
@@ -189,5 +227,6 @@ pub(crate) fn put_track(track: Track) {
     put_fixed_text(track.isrc);
     put_u8(track.has_genre);
     put_genre(track.genre);
+    put_track_ends(texts);
     end_line();
 }

@@ -1,6 +1,6 @@
-//! The listing of a table, by the Rust's answer.
+//! The listing of a table, by the Rust's answer, with the warnings 19 of the plain walk.
 
-use oracle::error::Warning;
+use generate::endings::{Warning, put_in, unterminated};
 use oracle::lone::{numbers, read_lone};
 use oracle::toc::Area;
 use std::fmt::Display;
@@ -23,10 +23,11 @@ fn read(table: &[u8]) -> Result<(Area, Vec<Warning>), u8> {
     if table.is_empty() || table.len() > MOST || !table.len().is_multiple_of(2048) {
         return Err(7);
     }
-    match read_lone(table).expect("the image has the table") {
-        (Some(area), warnings) => Ok((area, warnings)),
-        (None, _) => Err(6),
-    }
+    let (area, warnings) = read_lone(table).expect("the image has the table");
+    let area = area.ok_or(6)?;
+    let warnings: Vec<_> = warnings.iter().map(numbers).collect();
+    let unterminated = unterminated(table, 1, area.tracks.len());
+    Ok((area, put_in(&warnings, &unterminated)))
 }
 
 /// A line of a word and numbers, one blank between.
@@ -50,6 +51,6 @@ fn list(text: &mut String, area: &Area, warnings: &[Warning]) {
     }
     line(text, "warnings", [warnings.len()]);
     for warning in warnings {
-        line(text, "", numbers(warning));
+        line(text, "", warning);
     }
 }

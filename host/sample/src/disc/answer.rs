@@ -1,9 +1,10 @@
-//! The lines of a disc, by the Rust's answer.
+//! The lines of a disc, by the Rust's answer; how texts ended, and the warnings 19, by the plain walk.
 
 use super::{Stored, chosen};
 use generate::disc::Disc;
+use generate::endings::{Warning, area_ends, disc_ends, put_in, track_ends, unterminated};
 use oracle::disc::{Disc as Answer, Stored as StoredTimes, read_stored};
-use oracle::error::{Slot, Warning};
+use oracle::error::Slot;
 use oracle::image::SectorFormat;
 use oracle::lone::{Times, numbers, slot_number};
 use oracle::text::Charset;
@@ -20,32 +21,39 @@ const WORK_BYTES: usize = 544_768;
 /// What every work byte is before a disc is read.
 const UNREAD: u8 = 90;
 /// The numbers of a master record and of an area's.
-const MASTER_NUMBERS: usize = 150;
-const AREA_NUMBERS: usize = 85;
+const MASTER_NUMBERS: usize = 166;
+const AREA_NUMBERS: usize = 89;
 /// Locales that they hold.
 const MASTER_LOCALES: usize = 8;
 const AREA_LOCALES: usize = 10;
 
-/// What the Rust gives of a disc: the refusal or 0, the records, and the warnings.
+/// What the Rust gives of a disc: the refusal or 0, the records, and the table that it has read for each
+/// slot; and all warnings.
 struct Reading<'a> {
     refusal: u8,
     toc: Option<&'a Toc>,
     master: Option<&'a MasterToc>,
-    warnings: &'a [Warning],
+    tables: [Vec<u8>; 2],
+    warnings: Vec<Warning>,
 }
 
 impl<'a> Reading<'a> {
-    fn new(answer: &'a Answer) -> Self {
+    fn new(disc: &Disc, answer: &'a Answer) -> Self {
         let refusal = answer.refusal().expect("the Rust refuses by a rule of the document");
-        match answer {
-            Answer::Accepted(toc, warnings) => {
-                Reading { refusal, toc: Some(toc), master: Some(&toc.master), warnings }
-            }
-            Answer::Silent(master, warnings) => {
-                Reading { refusal, toc: None, master: Some(master), warnings }
-            }
-            Answer::Refused(_) => Reading { refusal, toc: None, master: None, warnings: &[] },
-        }
+        let (toc, master, rust) = match answer {
+            Answer::Accepted(toc, warnings) => (Some(toc), Some(&toc.master), &warnings[..]),
+            Answer::Silent(master, warnings) => (None, Some(master), &warnings[..]),
+            Answer::Refused(_) => (None, None, &[][..]),
+        };
+        let table = |slot| master.map(|master| chosen(disc, slot, master.pointer(slot), rust));
+        let tables = Slot::ALL.map(|slot| table(slot).unwrap_or_default());
+        let areas = Slot::ALL.into_iter().zip(&tables).flat_map(|(slot, table)| {
+            let tracks = toc.and_then(|toc| toc.area(slot)).map_or(0, |area| area.tracks.len());
+            unterminated(table, slot_number(slot), tracks)
+        });
+        let rust: Vec<_> = rust.iter().map(numbers).collect();
+        let warnings = put_in(&rust, &areas.collect::<Vec<_>>());
+        Reading { refusal, toc, master, tables, warnings }
     }
 }
 
@@ -53,16 +61,16 @@ impl<'a> Reading<'a> {
 pub fn lines(stored: &Stored) -> String {
     let disc = &stored.disc;
     let (answer, times) = read_stored(sector_format(disc.format), &disc.bytes);
-    let reading = Reading::new(&answer);
+    let reading = Reading::new(disc, &answer);
     let mut text = String::new();
     put_head(&mut text, &stored.name, disc, &reading);
     match reading.master {
-        Some(master) => put_master(&mut text, master),
+        Some(master) => put_master(&mut text, master, &disc.master()),
         None => line(&mut text, "master", [0; MASTER_NUMBERS]),
     }
-    for slot in Slot::ALL {
+    for (slot, table) in Slot::ALL.into_iter().zip(&reading.tables) {
         match reading.toc.and_then(|toc| toc.area(slot)) {
-            Some(area) => put_area(&mut text, area, &times),
+            Some(area) => put_area(&mut text, area, table, &times),
             None => line(&mut text, "area", [0; AREA_NUMBERS]),
         }
     }
@@ -93,28 +101,29 @@ fn put_head(text: &mut String, name: &str, disc: &Disc, reading: &Reading) {
     let sectors = toc.map_or(0, |toc| toc.sectors);
     let head = [u64::from(*refusal), warnings.len() as u64, format, sectors];
     line(text, &format!("disc {name}"), head);
-    for warning in *warnings {
-        line(text, "warning", numbers(warning));
+    for warning in warnings {
+        line(text, "warning", warning);
     }
 }
 
-fn put_master(text: &mut String, master: &MasterToc) {
-    let numbers = master_numbers(master);
+fn put_master(text: &mut String, master: &MasterToc, table: &[u8]) {
+    let numbers = master_numbers(master, table);
     assert_eq!(numbers.len(), MASTER_NUMBERS);
     line(text, "master", numbers);
     let texts = DiscTextItem::ALL.iter().map(|&item| master.text.get(item));
     put_texts(text, texts, master.text_charset);
 }
 
-fn put_area(text: &mut String, area: &Area, times: &StoredTimes) {
-    let numbers = area_numbers(area);
+fn put_area(text: &mut String, area: &Area, table: &[u8], times: &StoredTimes) {
+    let numbers = area_numbers(area, table);
     assert_eq!(numbers.len(), AREA_NUMBERS);
     line(text, "area", numbers);
     let texts = AreaTextItem::ALL.iter().map(|&item| area.text.get(item));
     put_texts(text, texts, area.text_charset);
-    for track in &area.tracks {
+    for (at, track) in area.tracks.iter().enumerate() {
         let times = times.timecodes(area.slot, track.number).expect("every track has its times");
-        line(text, "track", track_numbers(track, times));
+        let ends = track_ends(table, at).map(u64::from);
+        line(text, "track", [track_numbers(track, times), ends.to_vec()].concat());
         let texts = TrackTextItem::ALL.iter().map(|&item| track.text.get(item));
         put_texts(text, texts, area.text_charset);
     }
@@ -132,7 +141,8 @@ fn put_texts<'a>(text: &mut String, texts: impl Iterator<Item = Option<&'a str>>
     }
 }
 
-fn master_numbers(master: &MasterToc) -> Vec<u64> {
+/// The ends of the texts stand where the record has the texts.
+fn master_numbers(master: &MasterToc, table: &[u8]) -> Vec<u64> {
     let version = [master.version.major, master.version.minor];
     let album = [master.album_set_size, master.album_sequence_number];
     let date = [master.date.month, master.date.day];
@@ -152,12 +162,14 @@ fn master_numbers(master: &MasterToc) -> Vec<u64> {
         date.map(u64::from).to_vec(),
         vec![master.text_channel_count.into()],
         locales(&master.locales, MASTER_LOCALES),
-        vec![master.text_charset.into(), master.manufacturer.is_some().into()],
+        vec![master.text_charset.into()],
+        disc_ends(table).map(u64::from).to_vec(),
+        vec![master.manufacturer.is_some().into()],
     ]
     .concat()
 }
 
-fn area_numbers(area: &Area) -> Vec<u64> {
+fn area_numbers(area: &Area, table: &[u8]) -> Vec<u64> {
     let kind = match area.kind {
         AreaKind::TwoChannel => 1,
         AreaKind::Multichannel => 2,
@@ -188,6 +200,7 @@ fn area_numbers(area: &Area) -> Vec<u64> {
         vec![area.text_channel_count.into()],
         locales(&area.locales, AREA_LOCALES),
         vec![area.text_charset.into()],
+        area_ends(table).map(u64::from).to_vec(),
     ]
     .concat()
 }
@@ -256,11 +269,12 @@ fn one_a_character(text: &str) -> Vec<u8> {
 /// The work bytes after a reading.
 fn work(disc: &Disc, reading: &Reading) -> Vec<u8> {
     let mut work = vec![UNREAD; WORK_BYTES];
-    let Some(master) = reading.master else { return work };
+    if reading.master.is_none() {
+        return work;
+    }
     generate::table::put(&mut work, MASTER_REGION, &disc.master());
-    for (slot, region) in Slot::ALL.into_iter().zip(REGIONS) {
-        let table = chosen(disc, slot, master.pointer(slot), reading.warnings);
-        generate::table::put(&mut work, region, &table);
+    for (table, region) in reading.tables.iter().zip(REGIONS) {
+        generate::table::put(&mut work, region, table);
     }
     work
 }
