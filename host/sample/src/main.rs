@@ -2,7 +2,8 @@
 //! `stored_tables` and `stored_discs`, which need no Rust; and a table with its items by the plain
 //! walk, for `draws`; and images with what the plain gathering gives of them, for `stored_images`.
 //! `--check` asks the Rust again about what is stored, and walks and gathers again; `--answers` stores
-//! what these answer, and leaves the tables and discs as they are stored.
+//! what these answer, and leaves the tables and discs as they are stored; `--add` does that, and before it
+//! stores the tables and discs with a name that are not stored yet, behind the others.
 //!
 //! Exit status: 0 all is written, or is what must be stored; 1 something else is stored; 2 bad
 //! usage, a file that cannot be read or written, or a walk whose items are not the Rust's texts.
@@ -16,12 +17,13 @@ mod tape;
 
 use generate::Rng;
 use generate::table::any_table;
+use named::Named;
 use std::fs;
 use std::io::{Error, ErrorKind, Result};
 use std::path::Path;
 use std::process::ExitCode;
 
-const USAGE: &str = "usage: sample [--check | --answers] CRATES";
+const USAGE: &str = "usage: sample [--check | --answers | --add] CRATES";
 
 /// Tables at random beside those with a name, and the bytes that one is stored in at most.
 const RANDOM: usize = 150;
@@ -43,6 +45,9 @@ const DRAWS: &str = "draws/stdout";
 const IMAGES: &str = "stored_images/stdin";
 const IMAGE_LINES: &str = "stored_images/stdout";
 
+/// What the file of a table with a name ends in.
+const TABLE: &str = ".table";
+
 /// Tables at random that are stored in few bytes.
 fn random() -> impl Iterator<Item = Vec<u8>> {
     let tables = (0..).map(|case| any_table(&mut Rng::of_case(1, case)));
@@ -50,20 +55,55 @@ fn random() -> impl Iterator<Item = Vec<u8>> {
     listed.filter(|table| runs::runs(table).len() <= STORED).take(RANDOM)
 }
 
+/// Those of the tables with a name that are in the list.
+fn listed(named: &[Named]) -> impl Iterator<Item = Vec<u8>> {
+    let tables = named.iter().map(|(_, table)| table.clone());
+    tables.filter(|table| table.len() <= listing::MOST)
+}
+
 /// Writes the tables.
 fn write_tables(crates: &Path) -> Result<()> {
-    let mut named = named::named();
-    let listed = named.iter().map(|(_, table)| table.clone());
-    let listed = listed.filter(|table| table.len() <= listing::MOST);
-    let runs: Vec<_> = listed.chain(random()).flat_map(|table| runs::runs(&table)).collect();
+    let named = named::named();
+    let tables = listed(&named).chain(random());
     fs::create_dir_all(crates.join("replay"))?;
-    fs::write(crates.join(TABLES), runs)?;
-    named.iter_mut().for_each(|(name, _)| name.push_str(".table"));
-    named.sort();
-    let names: String = named.iter().map(|(name, _)| name.clone() + "\n").collect();
+    fs::write(
+        crates.join(TABLES),
+        tables.flat_map(|table| runs::runs(&table)).collect::<Vec<_>>(),
+    )?;
     fs::create_dir_all(crates.join(DATA))?;
-    fs::write(crates.join(NAMES), names)?;
-    named.iter().try_for_each(|(name, table)| fs::write(crates.join(DATA).join(name), table))
+    write_named(crates, &named, vec![])
+}
+
+/// Writes tables with a name, each to its file, and their names beside those that are stored.
+fn write_named(crates: &Path, named: &[Named], stored: Vec<String>) -> Result<()> {
+    let mut names = stored;
+    for (name, table) in named {
+        let file = name.clone() + TABLE;
+        fs::write(crates.join(DATA).join(&file), table)?;
+        names.push(file);
+    }
+    names.sort();
+    fs::write(crates.join(NAMES), names.join("\n") + "\n")
+}
+
+/// Writes the tables with a name that are not stored yet.
+fn add_tables(crates: &Path) -> Result<()> {
+    let names = fs::read_to_string(crates.join(NAMES))?;
+    let names: Vec<_> = names.lines().map(str::to_string).collect();
+    let mut named = named::named();
+    named.retain(|(name, _)| !names.contains(&(name.clone() + TABLE)));
+    let mut tables = fs::read(crates.join(TABLES))?;
+    tables.extend(listed(&named).flat_map(|table| runs::runs(&table)));
+    fs::write(crates.join(TABLES), tables)?;
+    write_named(crates, &named, names)
+}
+
+/// Writes the discs with a name of their own that are not stored yet.
+fn add_discs(crates: &Path) -> Result<()> {
+    let mut stored = fs::read(crates.join(DISCS))?;
+    let discs = disc::discs(&stored).ok_or_else(no_list)?;
+    stored.extend(disc::missing(&discs));
+    fs::write(crates.join(DISCS), stored)
 }
 
 fn write_discs(crates: &Path) -> Result<()> {
@@ -125,6 +165,12 @@ fn write(crates: &Path) -> Result<u8> {
     write_answers(crates)
 }
 
+fn add(crates: &Path) -> Result<u8> {
+    add_tables(crates)?;
+    add_discs(crates)?;
+    write_answers(crates)
+}
+
 fn write_answers(crates: &Path) -> Result<u8> {
     for (file, bytes) in checked(crates)? {
         fs::write(crates.join(file), bytes)?;
@@ -148,6 +194,7 @@ fn main() -> ExitCode {
     let result = match &words[..] {
         [word, crates] if word == "--check" => check(Path::new(crates)),
         [word, crates] if word == "--answers" => write_answers(Path::new(crates)),
+        [word, crates] if word == "--add" => add(Path::new(crates)),
         [crates] if !crates.starts_with('-') => write(Path::new(crates)),
         _ => Err(Error::new(ErrorKind::InvalidInput, USAGE)),
     };

@@ -1,9 +1,13 @@
 //! Tables with a name, each made for one rule: small changes of the document's example.
 
 use generate::layout::DATA;
-use generate::table::{put, put16, put32};
+use generate::table::{most_warnings, put, put16, put32};
 
-type Named = (&'static str, Vec<u8>);
+/// A table and its name.
+pub type Named = (String, Vec<u8>);
+
+/// The same, as it is written here.
+type Made = (&'static str, Vec<u8>);
 
 /// Sub-structures from sector 1 on, in a table of so many sectors: both track lists have one track
 /// from address 1000 on, 500 sectors long, and 1:0:1 in time; the play time is 1:0:0.
@@ -128,24 +132,51 @@ pub fn items() -> Vec<u8> {
     ])
 }
 
-/// A string of more than 4,096 bytes: the next item begins inside it.
-fn long_string() -> Vec<u8> {
-    let text = [b"\x02\0\0\0\x01\0", &[b'a'; 4096][..], b"\x02bcd\0"].concat();
+/// A string of more than 4,096 bytes: the next item, of this type, begins inside it.
+pub fn long_string(next: u8) -> Vec<u8> {
+    let text = [b"\x02\0\0\0\x01\0", &[b'a'; 4096][..], &[next], b"bcd\0"].concat();
     let mut table = texts(&[&text]);
     table.resize(7 * DATA, 0);
     with(table, 3 * DATA + 600, &text)
 }
 
-/// A string up to the table's end.
-fn to_the_end() -> Vec<u8> {
+/// A string of an item of this type up to the table's end.
+fn to_the_end(kind: u8) -> Vec<u8> {
     let table = texts(&[b"\x01\0\0\0\x01\0A\0", b""]);
     let end = table.len();
-    let table = with(table, end - 12, b"\x01\0\0\0\x01\0to end");
+    let table = with(table, end - 12, &[b"\x01\0\0\0", &[kind][..], b"\0to end"].concat());
     with(table, 3 * DATA + 10, &((end - 12 - 3 * DATA) as u16).to_be_bytes())
 }
 
-/// 255 tracks with three warnings each, and one of the area: all 766.
-fn all_warnings() -> Vec<u8> {
+/// Three texts next to each other, of an item each: their strings have 4,097, 4,096 and 4,095 bytes.
+const NEXT_TO_MOST: [u8; 7] = [1, 1, 1, 0, 3, 1, 2];
+
+/// Strings of 4,097, 4,096 and 4,095 bytes before a zero byte, as many before the table's end, and a few
+/// bytes before either. The area's texts begin where four of them do.
+pub fn ends() -> Vec<u8> {
+    let long = [&NEXT_TO_MOST[..], &[b'a'; 4096]].concat();
+    let short = b"\x02\0\0\0\x81\0short\0\x82\0zero\0";
+    let mut table = texts(&[&[short, &long[..], b"\0"].concat()]);
+    table.resize(8 * DATA, 0);
+    let [first, end] = [3 * DATA + 600, 8 * DATA];
+    let (zero, last) = (first + short.len(), end - long.len());
+    put(&mut table, first, &[short, &long[..], b"\0"].concat());
+    put(&mut table, last, &long);
+    let starts = [zero, zero + 1, zero + 2, last, last + 1, last + 2, end - 10, first];
+    put(&mut table, 69, &[starts.len() as u8]);
+    for (track, start) in starts.into_iter().enumerate() {
+        put_lsn(&mut table, DATA, track, 1000, 1);
+        put_times(&mut table, 2 * DATA, track, [0, 0, 0], [0, 1, 0]);
+        put16(&mut table, 3 * DATA + 8 + 2 * track, (start - 3 * DATA) as u16);
+    }
+    for (item, place) in [zero + 7, end - 4096, end - 10, first + 6].into_iter().enumerate() {
+        put16(&mut table, 144 + 2 * item, place as u16);
+    }
+    table
+}
+
+/// 255 tracks with three warnings each, 12 the last, and one of the area: 766.
+fn offsets_past_the_end() -> Vec<u8> {
     let mut table = with(table(&[b"SACDTRL1", b"SACDTRL2", b"SACDTTxt"], 4), 69, &[255]);
     put(&mut table, 20, &[5]);
     for track in 0..255 {
@@ -193,7 +224,7 @@ pub fn area_texts(code: u8) -> Vec<u8> {
 }
 
 /// Tables that are refused by 7, and lengths next to them.
-fn lengths() -> Vec<Named> {
+fn lengths() -> Vec<Made> {
     vec![
         ("bytes-0", of_length(0)),
         ("bytes-1", of_length(1)),
@@ -210,7 +241,7 @@ fn lengths() -> Vec<Named> {
 }
 
 /// Tables that are skipped, and those next to them that are not.
-fn skips() -> Vec<Named> {
+fn skips() -> Vec<Made> {
     let lists: [&[u8; 8]; 2] = [b"SACDTRL1", b"SACDTRL2"];
     let igl: [&[u8; 8]; 3] = [b"SACDTRL1", b"SACDTRL2", b"SACD_IGL"];
     let stopped: [&[u8; 8]; 3] = [b"SACDTRL1", b"SACDTRL3", b"SACDTRL2"];
@@ -233,7 +264,7 @@ fn skips() -> Vec<Named> {
 }
 
 /// All tables with a name.
-pub fn named() -> Vec<(String, Vec<u8>)> {
+pub fn named() -> Vec<Named> {
     let mut named = vec![("example", example())];
     named.extend(lengths());
     named.extend(skips());
@@ -254,12 +285,16 @@ pub fn named() -> Vec<(String, Vec<u8>)> {
         ("text-offsets", offsets()),
         ("text-items", items()),
         ("text-items-set-6", with(items(), 90, &[6])),
-        ("text-long", long_string()),
-        ("text-to-the-end", to_the_end()),
+        ("text-long", long_string(2)),
+        ("text-replaced", long_string(1)),
+        ("text-to-the-end", to_the_end(1)),
+        ("text-unknown-to-the-end", to_the_end(8)),
+        ("text-ends", ends()),
         ("playtimes", playtimes()),
         ("addresses", addresses()),
         ("frequency", with(example(), 20, &[5])),
-        ("warnings-766", all_warnings()),
+        ("warnings-766", offsets_past_the_end()),
+        ("warnings-1021", most_warnings()),
     ]);
     named.into_iter().map(|(name, table)| (name.to_string(), table)).collect()
 }

@@ -50,6 +50,12 @@ pub fn stored() -> Vec<u8> {
     all().iter().flat_map(Stored::bytes).collect()
 }
 
+/// The discs with a name of their own that are not among these.
+pub fn missing(discs: &[Stored]) -> Vec<u8> {
+    let is_missing = |new: &Stored| discs.iter().all(|disc| disc.name != new.name);
+    named::named().iter().filter(|new| is_missing(new)).flat_map(Stored::bytes).collect()
+}
+
 /// The discs that are stored so; nothing for other bytes.
 pub fn discs(stored: &[u8]) -> Option<Vec<Stored>> {
     let mut discs = vec![];

@@ -1,8 +1,10 @@
 //! Discs with a name, each made for one rule: small changes of one disc.
 
 use super::Stored;
-use crate::named::{area_texts, example, isrcs, items, locales, offsets, table, tracks, with};
-use generate::disc::{Disc, MASTER, MASTER_COPIES, MASTER_SECTORS};
+use crate::named::{
+    area_texts, ends, example, isrcs, items, locales, long_string, offsets, table, tracks, with,
+};
+use generate::disc::{Disc, MASTER, MASTER_COPIES, MASTER_SECTORS, most_warnings};
 use generate::layout::{DATA, Layout};
 use generate::table::{put, put16, put32};
 
@@ -205,6 +207,8 @@ fn add_tables(named: &mut Named) {
     named.add_tables("warning-14", example);
     named.add_tables("warning-15", || with(tracks(2), DATA + 8, &[0, 0, 3, 231]));
     named.add_tables("warning-18", || with(tracks(2), 20, &[5]));
+    named.add_tables("warning-19", ends);
+    named.add_tables("warning-19-not", || long_string(1));
     named.add_tables("tracks-0", || tracks(0));
     named.add_tables("tracks-255", || tracks(255));
     named.add("either-signature", |parts| parts.tables.swap(0, 1));
@@ -219,6 +223,10 @@ fn add_texts(named: &mut Named) {
         put16(&mut parts.master, DATA + 16 + 30, 2047);
         put(&mut parts.master, 2 * DATA - 1, b"z");
         put16(&mut parts.master, DATA + 16 + 28, 2048);
+    });
+    named.add("texts-past-sector-1", |parts| {
+        put16(&mut parts.master, DATA + 16, 2040);
+        put(&mut parts.master, 2 * DATA - 8, b"up to the end of the sector");
     });
     named.add("texts-of-a-disc-set-3", |parts| parts.master[138] = 11);
     named.add("texts-of-a-disc-set-8", |parts| parts.master[138] = 8);
@@ -244,5 +252,6 @@ pub fn named() -> Vec<Stored> {
     add_copies(&mut named);
     add_tables(&mut named);
     add_texts(&mut named);
+    named.0.push(Stored { name: "warnings-2047".to_string(), disc: most_warnings(0) });
     named.0
 }

@@ -30,7 +30,7 @@ fn every_class_has_a_disc() {
     assert!(2 * accepted.count() > all.len() && all.len() >= 50);
     let warnings = answers.iter().flat_map(|lines| numbers(lines, "warning "));
     let warnings: BTreeSet<_> = warnings.map(|numbers| (numbers[0], numbers[1])).collect();
-    for code in (1..=18).filter(|&code| code != 16) {
+    for code in (1..=19).filter(|&code| code != 16) {
         let slots = if [1, 2, 17].contains(&code) { 0..=0 } else { 1..=2 };
         slots.for_each(|slot| assert!(warnings.contains(&(code, slot)), "{code} {slot}"));
     }
@@ -51,4 +51,23 @@ fn stored_times_of_every_class_have_a_track() {
         assert!(tracks.iter().any(|track| track[time.clone()][1] > 59));
         assert!(tracks.iter().any(|track| track[time.clone()][2] > 74));
     }
+}
+
+/// The last of the numbers of the lines that begin with a word.
+fn last<const N: usize>(answers: &[String], word: &str) -> BTreeSet<[u64; N]> {
+    let numbers = answers.iter().flat_map(|lines| numbers(lines, word));
+    numbers.filter_map(|numbers| numbers.last_chunk().copied()).collect()
+}
+
+#[test]
+fn texts_of_every_end_are_stored() {
+    let answers: Vec<_> = all().iter().map(lines).collect();
+    let tracks: BTreeSet<_> = last::<14>(&answers, "track ").into_iter().flatten().collect();
+    let areas: BTreeSet<_> = last::<4>(&answers, "area ").into_iter().flatten().collect();
+    assert_eq!((tracks, areas), (BTreeSet::from([0, 1, 2, 3]), BTreeSet::from([0, 1, 2, 3])));
+    let discs = last::<17>(&answers, "master ");
+    let discs: BTreeSet<_> = discs.into_iter().flat_map(|ends| ends.into_iter().take(16)).collect();
+    assert_eq!(discs, BTreeSet::from([0, 1, 3]));
+    let warnings = answers.iter().map(|lines| numbers(lines, "disc ")[0][1]);
+    assert_eq!(warnings.max(), Some(2047));
 }
