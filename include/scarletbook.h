@@ -285,6 +285,7 @@ enum {
 /* ---- Records ----
  *
  * Named as in Rust. The two whose names are those of functions end in _record: fixed_text, table_head.
+ * Compare two by their fields: what stands between these in memory means nothing.
  */
 
 /* The text of a fixed field, one byte a character: the text, and zeros past it. */

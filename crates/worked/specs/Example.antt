@@ -9,8 +9,6 @@ use lib.ListN.{replicate}
 use Rattle.sectors.specs.Fill.{fill}
 use Rattle.sectors.specs.Format.{sectorSize}
 use Rattle.area.specs.declared.text_places.TextPlace.{TextPlace}
-use Rattle.area.specs.declared.timecode.Frame.{Frame}
-use Rattle.area.specs.declared.timecode.Timecode.{Timecode}
 use Rattle.area.specs.declared.track.TrackTimes.{TrackTimes}
 use Rattle.area.specs.declared.warning.Warning.{Warning}
 
