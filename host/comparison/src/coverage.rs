@@ -37,8 +37,8 @@ const DISCS: [(&str, &str, &str); 40] = [
     ("tracks of discs, each with its stored times", OF_DISCS, ""),
     ("tracks of discs that are capped", OF_DISCS, "capped"),
     ("tracks of discs with warning 19", ENDS_OF_DISCS, "19"),
-    ("their texts ended by 4,096 bytes", ENDS_OF_DISCS, "by 4,096 bytes"),
-    ("their texts ended by the table's end", ENDS_OF_DISCS, "by the end"),
+    ("track texts of discs ended by 4,096 bytes", ENDS_OF_DISCS, "by 4,096 bytes"),
+    ("track texts of discs ended by the table's end", ENDS_OF_DISCS, "by the end"),
     ("disc texts", "disc texts", ""),
     ("area texts", "disc area texts", ""),
     ("track texts", "disc track texts", ""),
@@ -50,8 +50,8 @@ const DISCS: [(&str, &str, &str); 40] = [
     ("tracks of lone tables, each with its stored times", OF_TABLES, ""),
     ("tracks of lone tables that are capped", OF_TABLES, "capped"),
     ("tracks of lone tables with warning 19", ENDS_OF_TABLES, "19"),
-    ("their texts ended by 4,096 bytes", ENDS_OF_TABLES, "by 4,096 bytes"),
-    ("their texts ended by the table's end", ENDS_OF_TABLES, "by the end"),
+    ("track texts of lone tables ended by 4,096 bytes", ENDS_OF_TABLES, "by 4,096 bytes"),
+    ("track texts of lone tables ended by the table's end", ENDS_OF_TABLES, "by the end"),
 ];
 
 /// The lines of the table, for a document.

@@ -89,10 +89,8 @@ fn any_long_text(rng: &mut Rng) -> (Vec<u8>, usize) {
     for item in 0..items {
         kind = if item > 0 && rng.below(3) == 0 { kind } else { any_kind(rng, kind) };
         text.extend([kind, rng.pick(&[0, 1, 255])]);
-        let length = match item == long {
-            true => rng.pick(&[MOST - 1, MOST, MOST, MOST + 1, MOST + 2, MOST + 40]),
-            false => rng.below(8),
-        };
+        let about_most = rng.pick(&[MOST - 1, MOST, MOST, MOST + 1, MOST + 2, MOST + 40]);
+        let length = if item == long { about_most } else { rng.below(8) };
         text.extend(std::iter::repeat_with(|| any_letter(rng, false)).take(length));
         end = if item == long { text.len() } else { end };
         text.extend([0; 2].iter().take(rng.pick(&[0, 0, 1, 2])));
