@@ -2,6 +2,30 @@
 //! the one module with `unsafe`.
 
 use crate::record::*;
+use std::mem::{MaybeUninit, align_of, size_of};
+
+// An area's record as the calls for each text of a track pass it by value, in two parts. x86-64 passes each in memory, since it
+// has more than 16 bytes, and one behind the other, where the record would stand. A copy of more than 128
+// bytes at once is made by a slow instruction, which took as long as a seventh of such a call.
+#[repr(C)]
+#[derive(Clone, Copy)]
+struct AreaFront(MaybeUninit<[u32; 24]>);
+#[repr(C)]
+#[derive(Clone, Copy)]
+struct AreaBack(MaybeUninit<[u32; 12]>);
+
+const _: () = {
+    assert!(cfg!(target_arch = "x86_64") && size_of::<AreaFront>() % 8 == 0);
+    assert!(size_of::<AreaFront>() + size_of::<AreaBack>() == size_of::<Area>());
+    assert!(align_of::<AreaFront>() == align_of::<Area>());
+};
+
+#[inline]
+fn in_parts(area: &Area) -> (AreaFront, AreaBack) {
+    let front = (area as *const Area).cast::<AreaFront>();
+    // SAFETY: the two together are as long as the record, no more aligned, and hold any bytes.
+    unsafe { (*front, *front.add(1).cast()) }
+}
 
 // A slice is a pointer and then a length.
 unsafe extern "C" {
@@ -83,7 +107,8 @@ unsafe extern "C" {
     fn scarletbook_decode_track_text(
         table: *const u8,
         table_len: usize,
-        area: Area,
+        front: AreaFront,
+        back: AreaBack,
         tracks: *const Track,
         tracks_len: usize,
         number: u32,
@@ -129,7 +154,8 @@ unsafe extern "C" {
     fn scarletbook_decode_disc_track_text(
         work: *const u8,
         work_len: usize,
-        area: Area,
+        front: AreaFront,
+        back: AreaBack,
         tracks: *const Track,
         tracks_len: usize,
         number: u32,
@@ -391,12 +417,14 @@ pub fn decode_track_text(
     item: u32,
     page: &mut [u8],
 ) -> DecodeAnswer {
+    let (front, back) = in_parts(area);
     // SAFETY: pointers and lengths are those of slices; `page` overlaps nothing.
     unsafe {
         scarletbook_decode_track_text(
             table.as_ptr(),
             table.len(),
-            *area,
+            front,
+            back,
             tracks.as_ptr(),
             tracks.len(),
             number,
@@ -510,12 +538,14 @@ pub fn decode_disc_track_text(
     item: u32,
     page: &mut [u8],
 ) -> DecodeAnswer {
+    let (front, back) = in_parts(area);
     // SAFETY: pointers and lengths are those of slices; `page` overlaps nothing.
     unsafe {
         scarletbook_decode_disc_track_text(
             work.as_ptr(),
             work.len(),
-            *area,
+            front,
+            back,
             tracks.as_ptr(),
             tracks.len(),
             number,
