@@ -4,9 +4,9 @@
 use crate::record::*;
 use std::mem::{MaybeUninit, align_of, size_of};
 
-// An area's record as the calls for each text of a track pass it by value, in two parts. x86-64 passes each in memory, since it
-// has more than 16 bytes, and one behind the other, where the record would stand. A copy of more than 128
-// bytes at once is made by a slow instruction, which took as long as a seventh of such a call.
+// An area's record as the calls that decode a track's text pass it by value, in two parts. Each has more than 16 bytes, so that
+// x86-64 passes it in memory, and one stands behind the other, where the record would stand. A copy
+// of more than 128 bytes at once is made by a slow instruction (docs/DECISIONS.md, request 5).
 #[repr(C)]
 #[derive(Clone, Copy)]
 struct AreaFront(MaybeUninit<[u32; 24]>);
@@ -15,7 +15,7 @@ struct AreaFront(MaybeUninit<[u32; 24]>);
 struct AreaBack(MaybeUninit<[u32; 12]>);
 
 const _: () = {
-    assert!(cfg!(target_arch = "x86_64") && size_of::<AreaFront>() % 8 == 0);
+    assert!(cfg!(all(target_arch = "x86_64", unix)) && size_of::<AreaFront>() % 8 == 0);
     assert!(size_of::<AreaFront>() + size_of::<AreaBack>() == size_of::<Area>());
     assert!(align_of::<AreaFront>() == align_of::<Area>());
 };
