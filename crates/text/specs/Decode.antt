@@ -21,8 +21,8 @@ unfoldable pub latin1Points : List ℕ → List ℕ
 latin1Points bytes = bytes
 
 -- "An absent text answers length 0 in every set and never meets 9." "decoding a present text of set 3 to 6": 9. "all others Latin-1"
-unfoldable pub pointsOf : List ℕ → ℕ → Decoded
-pointsOf bytes code = cond (present bytes) (cond (isMapped (setOf code)) (refused setNotHeld) (gives (latin1Points bytes))) (gives [])
+unfoldable pub pointsOf : List ℕ → ℕ → List ℕ → Decoded
+pointsOf bytes code words = cond (present bytes) (cond (isMapped (setOf code)) (refused setNotHeld) (gives (latin1Points bytes))) (gives [])
 
 -- the answer of a refusal, and of a text of so many bytes
 unfoldable pub refusing : ℕ → DecodeAnswer
@@ -42,9 +42,9 @@ pageWith (refused number) page = page
 pageWith (gives points) page = cond (leb (length (encoded points)) (length page)) (fill 0 (encoded points) page) page
 
 -- the answer of decoding into a page of so many bytes
-unfoldable pub decodeOf : List ℕ → ℕ → ℕ → DecodeAnswer
-decodeOf bytes code size = answerIn size (pointsOf bytes code)
+unfoldable pub decodeOf : List ℕ → ℕ → List ℕ → ℕ → DecodeAnswer
+decodeOf bytes code words size = answerIn size (pointsOf bytes code words)
 
 -- the page after it
-unfoldable pub decodeInto : List ℕ → ℕ → List ℕ → List ℕ
-decodeInto bytes code page = pageWith (pointsOf bytes code) page
+unfoldable pub decodeInto : List ℕ → ℕ → List ℕ → List ℕ → List ℕ
+decodeInto bytes code words page = pageWith (pointsOf bytes code words) page

@@ -31,9 +31,9 @@ refusals : {a b : DecodeAnswer} → a ≡ b → a .refusal ≡ b .refusal
 refusals e = ap (λ (a : DecodeAnswer). a .refusal) e
 
 -- equal bytes are decoded alike
-pub decode-same : {s t : List ℕ} → s ≡ t → (code : ℕ) (page : List ℕ) {answer : DecodeAnswer} {last : List ℕ}
-    → (answer ≡ decodeOf s code (length page)) × (last ≡ decodeInto s code page) → (answer ≡ decodeOf t code (length page)) × (last ≡ decodeInto t code page)
-decode-same e code page d = (d .0 ∙ ap (λ (b : List ℕ). decodeOf b code (length page)) e, d .1 ∙ ap (λ (b : List ℕ). decodeInto b code page) e)
+pub decode-same : {s t : List ℕ} → s ≡ t → (code : ℕ) (words page : List ℕ) {answer : DecodeAnswer} {last : List ℕ}
+    → (answer ≡ decodeOf s code words (length page)) × (last ≡ decodeInto s code words page) → (answer ≡ decodeOf t code words (length page)) × (last ≡ decodeInto t code words page)
+decode-same e code words page d = (d .0 ∙ ap (λ (b : List ℕ). decodeOf b code words (length page)) e, d .1 ∙ ap (λ (b : List ℕ). decodeInto b code words page) e)
 
 -- code points whose text is too long for a page, and such as fit
 module _ (points : List ℕ) where
@@ -53,107 +53,107 @@ module _ (points : List ℕ) where
   unfolding pageWith
   page-fits page h = simp (le-leb (length (encoded points)) (length page) h)
 
-module _ (bytes : List ℕ) (code : ℕ) where
+module _ (bytes : List ℕ) (code : ℕ) (words : List ℕ) where
   -- an absent text has no code points
-  pub points-absent : length bytes ≡ 0 → pointsOf bytes code ≡ gives []
+  pub points-absent : length bytes ≡ 0 → pointsOf bytes code words ≡ gives []
   unfolding pointsOf present
   points-absent none = simp (le-ltb 0 (length bytes) (omega arith))
 
   -- a present one of set 3 to 6 is refused
-  pub points-mapped : 0 < length bytes → isMapped (setOf code) ≡ true → pointsOf bytes code ≡ refused setNotHeld
+  pub points-mapped : 0 < length bytes → isMapped (setOf code) ≡ true → pointsOf bytes code words ≡ refused setNotHeld
   unfolding pointsOf present
   points-mapped is-present mapped = simp (lt-ltb 0 (length bytes) is-present, mapped)
 
   -- in Latin-1 each byte is its own code point
-  pub points-latin1 : isMapped (setOf code) ≡ false → pointsOf bytes code ≡ gives bytes
+  pub points-latin1 : isMapped (setOf code) ≡ false → pointsOf bytes code words ≡ gives bytes
   unfolding pointsOf present latin1Points
   points-latin1 e = go bytes
     where
-      go : (bytes : List ℕ) → pointsOf bytes code ≡ gives bytes
+      go : (bytes : List ℕ) → pointsOf bytes code words ≡ gives bytes
       go [] = refl
       go (x ∷ xs) = simp (lt-ltb 0 (length (x ∷ xs)) (omega arith), e)
 
   -- what is refused answers its number, and leaves the page
-  module _ (number : ℕ) (e : pointsOf bytes code ≡ refused number) where
-    pub decode-refused : (size : ℕ) → decodeOf bytes code size ≡ refusing number
+  module _ (number : ℕ) (e : pointsOf bytes code words ≡ refused number) where
+    pub decode-refused : (size : ℕ) → decodeOf bytes code words size ≡ refusing number
     unfolding decodeOf answerIn
     decode-refused size = ap (answerIn size) e
 
-    pub into-refused : (page : List ℕ) → decodeInto bytes code page ≡ page
+    pub into-refused : (page : List ℕ) → decodeInto bytes code words page ≡ page
     unfolding decodeInto pageWith
     into-refused page = ap (λ (d : Decoded). pageWith d page) e
 
   -- code points are put into the page
-  module _ (points : List ℕ) (e : pointsOf bytes code ≡ gives points) where
-    pub decode-gives : (size : ℕ) → decodeOf bytes code size ≡ answerIn size (gives points)
+  module _ (points : List ℕ) (e : pointsOf bytes code words ≡ gives points) where
+    pub decode-gives : (size : ℕ) → decodeOf bytes code words size ≡ answerIn size (gives points)
     unfolding decodeOf
     decode-gives size = ap (answerIn size) e
 
-    pub into-gives : (page : List ℕ) → decodeInto bytes code page ≡ pageWith (gives points) page
+    pub into-gives : (page : List ℕ) → decodeInto bytes code words page ≡ pageWith (gives points) page
     unfolding decodeInto
     into-gives page = ap (λ (d : Decoded). pageWith d page) e
 
   -- "An absent text answers length 0 in every set and never meets 9.": and never 10
-  pub decode-absent : length bytes ≡ 0 → (size : ℕ) → decodeOf bytes code size ≡ giving 0
+  pub decode-absent : length bytes ≡ 0 → (size : ℕ) → decodeOf bytes code words size ≡ giving 0
   decode-absent none size =
       let n = ap length encoded-none in
       decode-gives [] (points-absent none) size ∙ answer-fits [] size (omega arith) ∙ ap giving n
 
-  pub into-absent : length bytes ≡ 0 → (page : List ℕ) → decodeInto bytes code page ≡ page
+  pub into-absent : length bytes ≡ 0 → (page : List ℕ) → decodeInto bytes code words page ≡ page
   into-absent none page =
       let n = ap length encoded-none in
       into-gives [] (points-absent none) page ∙ page-fits [] page (omega arith) ∙ ap (λ (t : List ℕ). fill 0 t page) encoded-none ∙ fill-none 0 page
 
   -- The cases of decoding into a page of so many bytes.
   pub data Case (size : ℕ) : Type 0 where
-    is-refused : (number : ℕ) → pointsOf bytes code ≡ refused number → Case size
-    too-long : (points : List ℕ) → pointsOf bytes code ≡ gives points → size < length (encoded points) → Case size
-    fitting : (points : List ℕ) → pointsOf bytes code ≡ gives points → length (encoded points) ≤ size → Case size
+    is-refused : (number : ℕ) → pointsOf bytes code words ≡ refused number → Case size
+    too-long : (points : List ℕ) → pointsOf bytes code words ≡ gives points → size < length (encoded points) → Case size
+    fitting : (points : List ℕ) → pointsOf bytes code words ≡ gives points → length (encoded points) ≤ size → Case size
 
   -- one of them holds
   pub decode-case : (size : ℕ) → Case size
-  decode-case size = by-points (pointsOf bytes code) refl
+  decode-case size = by-points (pointsOf bytes code words) refl
     where
-      by-page : (points : List ℕ) → pointsOf bytes code ≡ gives points → (t : Bool) → leb (length (encoded points)) size ≡ t → Case size
+      by-page : (points : List ℕ) → pointsOf bytes code words ≡ gives points → (t : Bool) → leb (length (encoded points)) size ≡ t → Case size
       by-page points e true f = fitting points e (leb-true (length (encoded points)) size f)
       by-page points e false f = too-long points e (leb-false (length (encoded points)) size f)
 
-      by-points : (d : Decoded) → pointsOf bytes code ≡ d → Case size
+      by-points : (d : Decoded) → pointsOf bytes code words ≡ d → Case size
       by-points (refused number) e = is-refused number e
       by-points (gives points) e = by-page points e (leb (length (encoded points)) size) refl
 
   -- a text is no longer than its page
-  pub decode-bound : (size : ℕ) → decodeOf bytes code size .len ≤ size
+  pub decode-bound : (size : ℕ) → decodeOf bytes code words size .len ≤ size
   unfolding refusing giving
   decode-bound size = go (decode-case size)
     where
-      go : Case size → decodeOf bytes code size .len ≤ size
+      go : Case size → decodeOf bytes code words size .len ≤ size
       go (is-refused number e) = omega (arith, ap (λ (a : DecodeAnswer). a .len) (decode-refused number e size))
       go (too-long points e h) = omega (arith, ap (λ (a : DecodeAnswer). a .len) (decode-gives points e size ∙ answer-short points size h))
       go (fitting points e h) = omega (arith, ap (λ (a : DecodeAnswer). a .len) (decode-gives points e size ∙ answer-fits points size h))
 
   -- a page keeps its length
-  pub into-length : (page : List ℕ) → length (decodeInto bytes code page) ≡ length page
+  pub into-length : (page : List ℕ) → length (decodeInto bytes code words page) ≡ length page
   into-length page = go (decode-case (length page))
     where
-      go : Case (length page) → length (decodeInto bytes code page) ≡ length page
+      go : Case (length page) → length (decodeInto bytes code words page) ≡ length page
       go (is-refused number e) = ap length (into-refused number e page)
       go (too-long points e h) = ap length (into-gives points e page ∙ page-short points page h)
       go (fitting points e h) = ap length (into-gives points e page ∙ page-fits points page h) ∙ length-fill 0 (encoded points) page (omega arith)
 
   -- "Every refusal .. changes no lent memory."
-  pub into-leaves : (page : List ℕ) → (decodeOf bytes code (length page) .refusal ≡ 0 → ⊥) → decodeInto bytes code page ≡ page
+  pub into-leaves : (page : List ℕ) → (decodeOf bytes code words (length page) .refusal ≡ 0 → ⊥) → decodeInto bytes code words page ≡ page
   unfolding refusing giving
   into-leaves page refuses = go (decode-case (length page))
     where
-      go : Case (length page) → decodeInto bytes code page ≡ page
+      go : Case (length page) → decodeInto bytes code words page ≡ page
       go (is-refused number e) = into-refused number e page
       go (too-long points e h) = into-gives points e page ∙ page-short points page h
       go (fitting points e h) =
           absurd (refuses (refusals (decode-gives points e (length page) ∙ answer-fits points (length page) h)))
 
   -- only a present text of set 3 to 6 is refused before the page is looked at, with 9
-  pub points-refused : (number : ℕ) → pointsOf bytes code ≡ refused number → (number ≡ setNotHeld) × (0 < length bytes) × (isMapped (setOf code) ≡ true)
+  pub points-refused : (number : ℕ) → pointsOf bytes code words ≡ refused number → (number ≡ setNotHeld) × (0 < length bytes) × (isMapped (setOf code) ≡ true)
   points-refused number e = by-bytes (length bytes) refl
     where
       number-of : Decoded → ℕ
@@ -169,10 +169,10 @@ module _ (bytes : List ℕ) (code : ℕ) where
       by-bytes (suc n) z = by-set (omega arith) (isMapped (setOf code)) refl
 
   -- "9 | set not held | decoding a present text of set 3 to 6", and only then
-  pub nine-comes : 0 < length bytes → isMapped (setOf code) ≡ true → (size : ℕ) → decodeOf bytes code size ≡ refusing setNotHeld
+  pub nine-comes : 0 < length bytes → isMapped (setOf code) ≡ true → (size : ℕ) → decodeOf bytes code words size ≡ refusing setNotHeld
   nine-comes is-present mapped size = decode-refused setNotHeld (points-mapped is-present mapped) size
 
-  pub nine-only : (size : ℕ) → decodeOf bytes code size .refusal ≡ setNotHeld → (0 < length bytes) × (isMapped (setOf code) ≡ true)
+  pub nine-only : (size : ℕ) → decodeOf bytes code words size .refusal ≡ setNotHeld → (0 < length bytes) × (isMapped (setOf code) ≡ true)
   unfolding refusing giving
   nine-only size nine = go (decode-case size)
     where
@@ -182,16 +182,16 @@ module _ (bytes : List ℕ) (code : ℕ) where
       go (fitting points e h) = absurd (omega (arith, sym nine ∙ refusals (decode-gives points e size ∙ answer-fits points size h)))
 
   -- "10 | short page | decoded text longer than the page lent", and only then
-  pub ten-comes : (points : List ℕ) → pointsOf bytes code ≡ gives points → (size : ℕ) → size < length (encoded points)
-      → decodeOf bytes code size ≡ refusing shortPage
+  pub ten-comes : (points : List ℕ) → pointsOf bytes code words ≡ gives points → (size : ℕ) → size < length (encoded points)
+      → decodeOf bytes code words size ≡ refusing shortPage
   ten-comes points e size h = decode-gives points e size ∙ answer-short points size h
 
-  pub ten-only : (size : ℕ) → decodeOf bytes code size .refusal ≡ shortPage
-      → (points : List ℕ) × (pointsOf bytes code ≡ gives points) × (size < length (encoded points))
+  pub ten-only : (size : ℕ) → decodeOf bytes code words size .refusal ≡ shortPage
+      → (points : List ℕ) × (pointsOf bytes code words ≡ gives points) × (size < length (encoded points))
   unfolding refusing giving
   ten-only size ten = go (decode-case size)
     where
-      go : Case size → (points : List ℕ) × (pointsOf bytes code ≡ gives points) × (size < length (encoded points))
+      go : Case size → (points : List ℕ) × (pointsOf bytes code words ≡ gives points) × (size < length (encoded points))
       go (is-refused number e) =
           absurd (omega (arith, points-refused number e .0, sym ten ∙ refusals (decode-refused number e size)))
       go (too-long points e h) = (points, e, h)
@@ -199,7 +199,7 @@ module _ (bytes : List ℕ) (code : ℕ) where
 
   -- of Latin-1 a page of twice the bytes is never too short
   pub twice-is-enough : isMapped (setOf code) ≡ false → ((i : ℕ) → getD bytes i 0 < 256) → (size : ℕ) → 2 * length bytes ≤ size
-      → decodeOf bytes code size .refusal ≡ shortPage → ⊥
+      → decodeOf bytes code words size .refusal ≡ shortPage → ⊥
   twice-is-enough held small size room ten =
       let t = ten-only size ten in
       omega (arith, t .2, latin1-length bytes small, ap points-length (sym (points-latin1 held) ∙ t .1))

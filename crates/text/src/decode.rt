@@ -100,10 +100,16 @@ fn decode_latin1(bytes: &[u8], ascii: bool, page: &mut [u8]) -> DecodeAnswer
 }
 
 // Decodes a string's bytes, of the set that a code names, to the start of a page; the caller may know that they are ASCII.
-pub(crate) fn decode_known(bytes: &[u8], ascii: bool, code: u8, page: &mut [u8]) -> DecodeAnswer
+pub(crate) fn decode_known(
+    bytes: &[u8],
+    ascii: bool,
+    code: u8,
+    mapping: &[u32],
+    page: &mut [u8],
+) -> DecodeAnswer
     requires { ⌜ (ascii ≡ true → isAscii (now bytes) ≡ true) ⌝ }
-    ensures answer { λ r. ⌜ r ≡ decodeOf (now (bytes .entry)) code (length (now (page .entry))) ⌝ }
-    ensures filled { λ r. ⌜ now (page .exit) ≡ decodeInto (now (bytes .entry)) code (now (page .entry)) ⌝ }
+    ensures answer { λ r. ⌜ r ≡ decodeOf (now (bytes .entry)) code (now (mapping .entry)) (length (now (page .entry))) ⌝ }
+    ensures filled { λ r. ⌜ now (page .exit) ≡ decodeInto (now (bytes .entry)) code (now (mapping .entry)) (now (page .entry)) ⌝ }
 {
     if bytes.len() == 0 {
         return DecodeAnswer { refusal: 0, len: 0 };
@@ -119,9 +125,9 @@ pub(crate) fn decode_known(bytes: &[u8], ascii: bool, code: u8, page: &mut [u8])
 
 // Decodes a string's bytes, of the set that a code names, to the start of a page. A refusal changes nothing. (The Rust's
 // `decode_string`; its own `decode` leaves controls as they are.)
-pub fn decode(bytes: &[u8], code: u8, page: &mut [u8]) -> DecodeAnswer
-    ensures answer { λ r. ⌜ r ≡ decodeOf (now (bytes .entry)) code (length (now (page .entry))) ⌝ }
-    ensures filled { λ r. ⌜ now (page .exit) ≡ decodeInto (now (bytes .entry)) code (now (page .entry)) ⌝ }
+pub fn decode(bytes: &[u8], code: u8, mapping: &[u32], page: &mut [u8]) -> DecodeAnswer
+    ensures answer { λ r. ⌜ r ≡ decodeOf (now (bytes .entry)) code (now (mapping .entry)) (length (now (page .entry))) ⌝ }
+    ensures filled { λ r. ⌜ now (page .exit) ≡ decodeInto (now (bytes .entry)) code (now (mapping .entry)) (now (page .entry)) ⌝ }
 {
-    decode_known(bytes, is_ascii(bytes), code, page)
+    decode_known(bytes, is_ascii(bytes), code, mapping, page)
 }

@@ -33,25 +33,37 @@ fn ascii_in(bytes: &[u8]) -> usize
 }
 
 // Decodes the string at a place of a table: the end of an ASCII string is found in one pass; one that is not ASCII is sought anew.
-fn decode_stored(table: &[u8], place: usize, code: u8, page: &mut [u8]) -> DecodeAnswer
-    ensures answer { λ r. ⌜ r ≡ decodeOf (stringAt (now (table .entry)) place) code (length (now (page .entry))) ⌝ }
-    ensures filled { λ r. ⌜ now (page .exit) ≡ decodeInto (stringAt (now (table .entry)) place) code (now (page .entry)) ⌝ }
+fn decode_stored(
+    table: &[u8],
+    place: usize,
+    code: u8,
+    mapping: &[u32],
+    page: &mut [u8],
+) -> DecodeAnswer
+    ensures answer { λ r. ⌜ r ≡ decodeOf (stringAt (now (table .entry)) place) code (now (mapping .entry)) (length (now (page .entry))) ⌝ }
+    ensures filled { λ r. ⌜ now (page .exit) ≡ decodeInto (stringAt (now (table .entry)) place) code (now (mapping .entry)) (now (page .entry)) ⌝ }
 {
     let window = string_window(table, place);
     let n = ascii_in(window);
     if byte_at(window, n) == 0 {
-        return decode_known(&window[..n], true, code, page);
+        return decode_known(&window[..n], true, code, mapping, page);
     }
-    decode_known(string_bytes(table, place), false, code, page)
+    decode_known(string_bytes(table, place), false, code, mapping, page)
 }
 
 // Decodes the text whose string a record places in a table, 0 for an absent one, to the start of a page. A refusal changes nothing.
-pub fn decode_placed(table: &[u8], place: u32, code: u8, page: &mut [u8]) -> DecodeAnswer
-    ensures answer { λ r. ⌜ r ≡ decodeOf (placedString (now (table .entry)) place) code (length (now (page .entry))) ⌝ }
-    ensures filled { λ r. ⌜ now (page .exit) ≡ decodeInto (placedString (now (table .entry)) place) code (now (page .entry)) ⌝ }
+pub fn decode_placed(
+    table: &[u8],
+    place: u32,
+    code: u8,
+    mapping: &[u32],
+    page: &mut [u8],
+) -> DecodeAnswer
+    ensures answer { λ r. ⌜ r ≡ decodeOf (placedString (now (table .entry)) place) code (now (mapping .entry)) (length (now (page .entry))) ⌝ }
+    ensures filled { λ r. ⌜ now (page .exit) ≡ decodeInto (placedString (now (table .entry)) place) code (now (mapping .entry)) (now (page .entry)) ⌝ }
 {
     if place == 0 {
         return DecodeAnswer { refusal: 0, len: 0 };
     }
-    decode_stored(table, place as usize, code, page)
+    decode_stored(table, place as usize, code, mapping, page)
 }

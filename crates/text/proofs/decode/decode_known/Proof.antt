@@ -15,8 +15,8 @@ use Rattle.text.proofs.decode.decode_known.Tie as tie
 returns : tie.Need-returns
 unfolding giving
 returns c =
-    let a = c .before .before .before .args in let bytes = now (a .bytes) in let page = now (a .page) in
-    (sym (decode-absent bytes (a .code) (c .if1 .taken) (length page)), sym (into-absent bytes (a .code) (c .if1 .taken) page))
+    let a = c .before .before .before .before .args in let bytes = now (a .bytes) in let words = now (a .mapping) in let page = now (a .page) in
+    (sym (decode-absent bytes (a .code) words (c .if1 .taken) (length page)), sym (into-absent bytes (a .code) words (c .if1 .taken) page))
 
 charset-requires : tie.Need-charset-requires
 charset-requires c κs = search needs
@@ -24,10 +24,10 @@ charset-requires c κs = search needs
 returns-2 : tie.Need-returns-2
 unfolding refusing
 returns-2 c =
-    let a = c .before .before .before .before .before .args in let bytes = now (a .bytes) in let page = now (a .page) in
+    let a = c .before .before .before .before .before .before .args in let bytes = now (a .bytes) in let words = now (a .mapping) in let page = now (a .page) in
     let e = c .before .charset .ensures in let nonempty = c .before .before .if1 .left in
-    let is = points-mapped bytes (a .code) (omega arith) (not-latin1-mapped (a .code) (λ z. c .if2 .taken (e ∙ z))) in
-    (sym (decode-refused bytes (a .code) setNotHeld is (length page)), sym (into-refused bytes (a .code) setNotHeld is page))
+    let is = points-mapped bytes (a .code) words (omega arith) (not-latin1-mapped (a .code) (λ z. c .if2 .taken (e ∙ z))) in
+    (sym (decode-refused bytes (a .code) words setNotHeld is (length page)), sym (into-refused bytes (a .code) words setNotHeld is page))
 
 decode-latin1-requires : tie.Need-decode-latin1-requires
 decode-latin1-requires c κs = search needs
@@ -37,10 +37,10 @@ same-length c = search needs
 
 returns-3 : tie.Need-returns-3
 returns-3 c =
-    let k = c .before .before .before .before in let a = k .before .before .before .before .before .args in let bytes = now (a .bytes) in let page = now (a .page) in
-    let is = points-latin1 bytes (a .code) (latin1-unmapped (a .code) (sym (k .before .charset .ensures) ∙ k .if2 .left)) in
+    let k = c .before .before .before .before in let a = k .before .before .before .before .before .before .args in let bytes = now (a .bytes) in let words = now (a .mapping) in let page = now (a .page) in
+    let is = points-latin1 bytes (a .code) words (latin1-unmapped (a .code) (sym (k .before .charset .ensures) ∙ k .if2 .left)) in
     let d = c .before .before .decode-latin1 .ensures in
-    (d .0 ∙ sym (decode-gives bytes (a .code) bytes is (length page)), d .1 ∙ sym (into-gives bytes (a .code) bytes is page))
+    (d .0 ∙ sym (decode-gives bytes (a .code) words bytes is (length page)), d .1 ∙ sym (into-gives bytes (a .code) words bytes is page))
 
 pub decode-known-spec : {M : Type 1} → statement M
 decode-known-spec =

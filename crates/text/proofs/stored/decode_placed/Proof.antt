@@ -13,9 +13,9 @@ use Rattle.text.proofs.stored.decode_placed.Tie as tie
 returns : tie.Need-returns
 unfolding giving
 returns c =
-    let a = c .before .before .before .args in let page = now (a .page) in
+    let a = c .before .before .before .before .args in let page = now (a .page) in
     let string = placedString (now (a .table)) (a .place) in let none = ap length (placed-none (now (a .table)) (a .place) (c .if1 .taken)) in
-    (sym (decode-absent string (a .code) none (length page)), sym (into-absent string (a .code) none page))
+    (sym (decode-absent string (a .code) (now (a .mapping)) none (length page)), sym (into-absent string (a .code) (now (a .mapping)) none page))
 
 decode-stored-requires : tie.Need-decode-stored-requires
 decode-stored-requires c κs = search needs
@@ -25,8 +25,8 @@ same-length c = search needs
 
 returns-2 : tie.Need-returns-2
 returns-2 c =
-    let k = c .before .before .before .before in let a = k .before .before .before .args in
-    decode-same (sym (placed-there (now (a .table)) (a .place) (k .if1 .left))) (a .code) (now (a .page)) (c .before .before .decode-stored .ensures)
+    let k = c .before .before .before .before in let a = k .before .before .before .before .args in
+    decode-same (sym (placed-there (now (a .table)) (a .place) (k .if1 .left))) (a .code) (now (a .mapping)) (now (a .page)) (c .before .before .decode-stored .ensures)
 
 pub decode-placed-spec : {M : Type 1} → statement M
 decode-placed-spec = tie.close (tie.spec returns decode-stored-requires same-length returns-2)

@@ -59,9 +59,9 @@ same-length c = search needs
 returns : tie.Need-returns
 returns c =
     let test = c .before .before .before .before .before in let scan = test .before .before in let w = scan .before .string-window in
-    let a = scan .before .before .before .before .args in
+    let a = scan .before .before .before .before .before .args in
     let is = is-string _ (scan .ascii-in .ensures) (now (a .table)) (a .place) (w .ensures .0) (test .before .byte-at .ensures) (test .if1 .taken) in
-    decode-same is (a .code) (now (a .page)) (c .before .before .decode-known .ensures)
+    decode-same is (a .code) (now (a .mapping)) (now (a .page)) (c .before .before .decode-known .ensures)
 
 string-bytes-requires : tie.Need-string-bytes-requires
 string-bytes-requires c κs = search needs
@@ -74,8 +74,8 @@ same-length-2 c = search needs
 
 returns-2 : tie.Need-returns-2
 returns-2 c =
-    let k = c .before .before .before .before in let a = k .before .before .before .before .before .before .before .args in
-    decode-same (k .string-bytes .ensures .0) (a .code) (now (a .page)) (c .before .before .decode-known2 .ensures)
+    let k = c .before .before .before .before in let a = k .before .before .before .before .before .before .before .before .args in
+    decode-same (k .string-bytes .ensures .0) (a .code) (now (a .mapping)) (now (a .page)) (c .before .before .decode-known2 .ensures)
 
 pub decode-stored-spec : {M : Type 1} → statement M
 decode-stored-spec =
