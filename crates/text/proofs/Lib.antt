@@ -1,4 +1,5 @@
 pub mod Ascii
+pub mod Elements
 pub mod LanguageCases
 pub mod Padding
 pub mod Stores

@@ -1,13 +1,15 @@
--- Decoding a string into a lent page (01, "Text" and "What the desk gets back"). Assumes nothing.
+-- Decoding a string into a lent page (01, "Text" and "What the desk gets back"), those of sets 3 to 6 by a lent mapping (02, item 1). Assumes nothing.
 use Prim.Native.Nat.{ℕ}
 use mathlib.Core.Bool.{cond}
 use mathlib.Core.List.{List, []}
-use lib.Dec.{leb}
+use lib.Dec.{leb, eqb}
 use lib.ListN.{length}
 use Rattle.sectors.specs.Fill.{fill}
-use Rattle.text.specs.Refusal.{setNotHeld, shortPage}
+use Rattle.text.specs.Refusal.{setNotHeld, shortPage, badMapping}
 use Rattle.text.specs.String.{present}
 use Rattle.text.specs.Charset.{setOf, isMapped}
+use Rattle.text.specs.Mapping.{isMapping}
+use Rattle.text.specs.Mapped.{mappedPoints}
 use Rattle.text.specs.Utf8.{encoded}
 use Rattle.text.specs.declared.decode.DecodeAnswer.{DecodeAnswer}
 
@@ -20,9 +22,17 @@ pub data Decoded : Type 0 where
 unfoldable pub latin1Points : List ℕ → List ℕ
 latin1Points bytes = bytes
 
--- "An absent text answers length 0 in every set and never meets 9." "decoding a present text of set 3 to 6": 9. "all others Latin-1"
+-- "Refusal 9 now comes only for a mapping of no words. Checks: 12, only for a present text of set 3 to 6, a mapping with a count missing ..; after 9,
+-- before 10." (02, item 1)
+unfoldable pub mappedOf : List ℕ → ℕ → List ℕ → Decoded
+mappedOf bytes set words =
+    cond (eqb (length words) 0) (refused setNotHeld) (cond (isMapping words) (gives (mappedPoints words set bytes)) (refused badMapping))
+
+-- "An absent text answers length 0 in every set and never meets 9.": nor 12. "3 to 6 are the four tables ..", by the lent words; "all others Latin-1",
+-- without a look at them
 unfoldable pub pointsOf : List ℕ → ℕ → List ℕ → Decoded
-pointsOf bytes code words = cond (present bytes) (cond (isMapped (setOf code)) (refused setNotHeld) (gives (latin1Points bytes))) (gives [])
+pointsOf bytes code words =
+    cond (present bytes) (cond (isMapped (setOf code)) (mappedOf bytes (setOf code) words) (gives (latin1Points bytes))) (gives [])
 
 -- the answer of a refusal, and of a text of so many bytes
 unfoldable pub refusing : ℕ → DecodeAnswer

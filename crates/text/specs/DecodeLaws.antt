@@ -4,17 +4,20 @@ use mathlib.Core.Bool.{Bool, true, false}
 use mathlib.Core.List.{List, [], _∷_}
 use Prim.Native.Nat.{ℕ, zero, suc, _*_, _≤_, _<_}
 use native.Mathlib.Omega.{arith}
-use borrow.Author.Tests.{le-ltb, lt-ltb, le-leb, lt-leb, leb-true, leb-false}
-use lib.Dec.{leb}
+use borrow.Author.Tests.{le-ltb, lt-ltb, le-leb, lt-leb, leb-true, leb-false, eq-eqb, ne-eqb, eqb-true, eqb-false}
+use lib.Dec.{leb, eqb}
 use lib.ListN.{length, getD}
 use Rattle.sectors.specs.Fill.{fill}
 use Rattle.sectors.specs.FillLaws.{fill-none, length-fill}
-use Rattle.text.specs.Refusal.{setNotHeld, shortPage}
+use Rattle.text.specs.Refusal.{setNotHeld, shortPage, badMapping}
 use Rattle.text.specs.String.{present}
 use Rattle.text.specs.Charset.{setOf, isMapped}
+use Rattle.text.specs.Mapping.{isMapping}
+use Rattle.text.specs.Mapped.{mappedPoints}
+use Rattle.text.specs.MappedLaws.{text-most}
 use Rattle.text.specs.Utf8.{encoded}
 use Rattle.text.specs.Utf8Laws.{encoded-none, latin1-length}
-use Rattle.text.specs.Decode.{Decoded, refused, gives, latin1Points, pointsOf, refusing, giving, answerIn, pageWith, decodeOf, decodeInto}
+use Rattle.text.specs.Decode.{Decoded, refused, gives, latin1Points, mappedOf, pointsOf, refusing, giving, answerIn, pageWith, decodeOf, decodeInto}
 use Rattle.text.specs.declared.decode.DecodeAnswer.{DecodeAnswer}
 
 -- the answers' fields
@@ -53,14 +56,29 @@ module _ (points : List ℕ) where
   unfolding pageWith
   page-fits page h = simp (le-leb (length (encoded points)) (length page) h)
 
+-- a present text of set 3 to 6: by whether words are lent, and are a mapping
+module _ (bytes : List ℕ) (set : ℕ) (words : List ℕ) where
+  pub mapped-none : length words ≡ 0 → mappedOf bytes set words ≡ refused setNotHeld
+  unfolding mappedOf
+  mapped-none none = simp (eq-eqb (length words) 0 none)
+
+  module _ (some : length words ≡ 0 → ⊥) where
+    pub mapped-bad : isMapping words ≡ false → mappedOf bytes set words ≡ refused badMapping
+    unfolding mappedOf
+    mapped-bad e = simp (ne-eqb (length words) 0 some, e)
+
+    pub mapped-good : isMapping words ≡ true → mappedOf bytes set words ≡ gives (mappedPoints words set bytes)
+    unfolding mappedOf
+    mapped-good e = simp (ne-eqb (length words) 0 some, e)
+
 module _ (bytes : List ℕ) (code : ℕ) (words : List ℕ) where
   -- an absent text has no code points
   pub points-absent : length bytes ≡ 0 → pointsOf bytes code words ≡ gives []
   unfolding pointsOf present
   points-absent none = simp (le-ltb 0 (length bytes) (omega arith))
 
-  -- a present one of set 3 to 6 is refused
-  pub points-mapped : 0 < length bytes → isMapped (setOf code) ≡ true → pointsOf bytes code words ≡ refused setNotHeld
+  -- a present one of set 3 to 6 goes by the mapping
+  pub points-mapped : 0 < length bytes → isMapped (setOf code) ≡ true → pointsOf bytes code words ≡ mappedOf bytes (setOf code) words
   unfolding pointsOf present
   points-mapped is-present mapped = simp (lt-ltb 0 (length bytes) is-present, mapped)
 
@@ -73,36 +91,36 @@ module _ (bytes : List ℕ) (code : ℕ) (words : List ℕ) where
       go [] = refl
       go (x ∷ xs) = simp (lt-ltb 0 (length (x ∷ xs)) (omega arith), e)
 
+  -- the answer and the page are those of what the string gives
+  module _ {d : Decoded} (e : pointsOf bytes code words ≡ d) where
+    pub decode-by : (size : ℕ) → decodeOf bytes code words size ≡ answerIn size d
+    unfolding decodeOf
+    decode-by size = ap (answerIn size) e
+
+    pub into-by : (page : List ℕ) → decodeInto bytes code words page ≡ pageWith d page
+    unfolding decodeInto
+    into-by page = ap (λ (x : Decoded). pageWith x page) e
+
   -- what is refused answers its number, and leaves the page
   module _ (number : ℕ) (e : pointsOf bytes code words ≡ refused number) where
-    pub decode-refused : (size : ℕ) → decodeOf bytes code words size ≡ refusing number
-    unfolding decodeOf answerIn
-    decode-refused size = ap (answerIn size) e
+    decode-refused : (size : ℕ) → decodeOf bytes code words size ≡ refusing number
+    unfolding answerIn
+    decode-refused size = decode-by e size
 
-    pub into-refused : (page : List ℕ) → decodeInto bytes code words page ≡ page
-    unfolding decodeInto pageWith
-    into-refused page = ap (λ (d : Decoded). pageWith d page) e
-
-  -- code points are put into the page
-  module _ (points : List ℕ) (e : pointsOf bytes code words ≡ gives points) where
-    pub decode-gives : (size : ℕ) → decodeOf bytes code words size ≡ answerIn size (gives points)
-    unfolding decodeOf
-    decode-gives size = ap (answerIn size) e
-
-    pub into-gives : (page : List ℕ) → decodeInto bytes code words page ≡ pageWith (gives points) page
-    unfolding decodeInto
-    into-gives page = ap (λ (d : Decoded). pageWith d page) e
+    into-refused : (page : List ℕ) → decodeInto bytes code words page ≡ page
+    unfolding pageWith
+    into-refused page = into-by e page
 
   -- "An absent text answers length 0 in every set and never meets 9.": and never 10
   pub decode-absent : length bytes ≡ 0 → (size : ℕ) → decodeOf bytes code words size ≡ giving 0
   decode-absent none size =
       let n = ap length encoded-none in
-      decode-gives [] (points-absent none) size ∙ answer-fits [] size (omega arith) ∙ ap giving n
+      decode-by (points-absent none) size ∙ answer-fits [] size (omega arith) ∙ ap giving n
 
   pub into-absent : length bytes ≡ 0 → (page : List ℕ) → decodeInto bytes code words page ≡ page
   into-absent none page =
       let n = ap length encoded-none in
-      into-gives [] (points-absent none) page ∙ page-fits [] page (omega arith) ∙ ap (λ (t : List ℕ). fill 0 t page) encoded-none ∙ fill-none 0 page
+      into-by (points-absent none) page ∙ page-fits [] page (omega arith) ∙ ap (λ (t : List ℕ). fill 0 t page) encoded-none ∙ fill-none 0 page
 
   -- The cases of decoding into a page of so many bytes.
   pub data Case (size : ℕ) : Type 0 where
@@ -129,8 +147,8 @@ module _ (bytes : List ℕ) (code : ℕ) (words : List ℕ) where
     where
       go : Case size → decodeOf bytes code words size .len ≤ size
       go (is-refused number e) = omega (arith, ap (λ (a : DecodeAnswer). a .len) (decode-refused number e size))
-      go (too-long points e h) = omega (arith, ap (λ (a : DecodeAnswer). a .len) (decode-gives points e size ∙ answer-short points size h))
-      go (fitting points e h) = omega (arith, ap (λ (a : DecodeAnswer). a .len) (decode-gives points e size ∙ answer-fits points size h))
+      go (too-long points e h) = omega (arith, ap (λ (a : DecodeAnswer). a .len) (decode-by e size ∙ answer-short points size h))
+      go (fitting points e h) = omega (arith, ap (λ (a : DecodeAnswer). a .len) (decode-by e size ∙ answer-fits points size h))
 
   -- a page keeps its length
   pub into-length : (page : List ℕ) → length (decodeInto bytes code words page) ≡ length page
@@ -138,8 +156,8 @@ module _ (bytes : List ℕ) (code : ℕ) (words : List ℕ) where
     where
       go : Case (length page) → length (decodeInto bytes code words page) ≡ length page
       go (is-refused number e) = ap length (into-refused number e page)
-      go (too-long points e h) = ap length (into-gives points e page ∙ page-short points page h)
-      go (fitting points e h) = ap length (into-gives points e page ∙ page-fits points page h) ∙ length-fill 0 (encoded points) page (omega arith)
+      go (too-long points e h) = ap length (into-by e page ∙ page-short points page h)
+      go (fitting points e h) = ap length (into-by e page ∙ page-fits points page h) ∙ length-fill 0 (encoded points) page (omega arith)
 
   -- "Every refusal .. changes no lent memory."
   pub into-leaves : (page : List ℕ) → (decodeOf bytes code words (length page) .refusal ≡ 0 → ⊥) → decodeInto bytes code words page ≡ page
@@ -148,62 +166,137 @@ module _ (bytes : List ℕ) (code : ℕ) (words : List ℕ) where
     where
       go : Case (length page) → decodeInto bytes code words page ≡ page
       go (is-refused number e) = into-refused number e page
-      go (too-long points e h) = into-gives points e page ∙ page-short points page h
+      go (too-long points e h) = into-by e page ∙ page-short points page h
       go (fitting points e h) =
-          absurd (refuses (refusals (decode-gives points e (length page) ∙ answer-fits points (length page) h)))
+          absurd (refuses (refusals (decode-by e (length page) ∙ answer-fits points (length page) h)))
 
-  -- only a present text of set 3 to 6 is refused before the page is looked at, with 9
-  pub points-refused : (number : ℕ) → pointsOf bytes code words ≡ refused number → (number ≡ setNotHeld) × (0 < length bytes) × (isMapped (setOf code) ≡ true)
+  -- what is refused before the page is looked at: no words with 9, such as are no mapping with 12
+  pub data Unmapped (number : ℕ) : Type 0 where
+    no-words : number ≡ setNotHeld → length words ≡ 0 → Unmapped number
+    no-mapping : number ≡ badMapping → (length words ≡ 0 → ⊥) → isMapping words ≡ false → Unmapped number
+
+  -- and only for a present text of set 3 to 6
+  pub points-refused : (number : ℕ) → pointsOf bytes code words ≡ refused number → (0 < length bytes) × (isMapped (setOf code) ≡ true) × Unmapped number
   points-refused number e = by-bytes (length bytes) refl
     where
       number-of : Decoded → ℕ
       number-of (refused n) = suc n
       number-of (gives points) = zero
 
-      by-set : 0 < length bytes → (t : Bool) → isMapped (setOf code) ≡ t → (number ≡ setNotHeld) × (0 < length bytes) × (isMapped (setOf code) ≡ true)
-      by-set nonempty true m = (omega (arith, ap number-of (sym e ∙ points-mapped nonempty m)), nonempty, m)
+      by-mapping : pointsOf bytes code words ≡ mappedOf bytes (setOf code) words → (length words ≡ 0 → ⊥) → (t : Bool) → isMapping words ≡ t → Unmapped number
+      by-mapping is some true m = absurd (omega (arith, ap number-of (sym e ∙ is ∙ mapped-good bytes (setOf code) words some m)))
+      by-mapping is some false m = no-mapping (omega (arith, ap number-of (sym e ∙ is ∙ mapped-bad bytes (setOf code) words some m))) some m
+
+      by-words : pointsOf bytes code words ≡ mappedOf bytes (setOf code) words → (t : Bool) → eqb (length words) 0 ≡ t → Unmapped number
+      by-words is true f =
+          let none = eqb-true (length words) 0 f in
+          no-words (omega (arith, ap number-of (sym e ∙ is ∙ mapped-none bytes (setOf code) words none))) none
+      by-words is false f = by-mapping is (eqb-false (length words) 0 f) (isMapping words) refl
+
+      by-set : 0 < length bytes → (t : Bool) → isMapped (setOf code) ≡ t → (0 < length bytes) × (isMapped (setOf code) ≡ true) × Unmapped number
+      by-set nonempty true m = (nonempty, m, by-words (points-mapped nonempty m) (eqb (length words) 0) refl)
       by-set nonempty false m = absurd (omega (arith, ap number-of (sym e ∙ points-latin1 m)))
 
-      by-bytes : (n : ℕ) → length bytes ≡ n → (number ≡ setNotHeld) × (0 < length bytes) × (isMapped (setOf code) ≡ true)
+      by-bytes : (n : ℕ) → length bytes ≡ n → (0 < length bytes) × (isMapped (setOf code) ≡ true) × Unmapped number
       by-bytes zero z = absurd (omega (arith, ap number-of (sym e ∙ points-absent z)))
       by-bytes (suc n) z = by-set (omega arith) (isMapped (setOf code)) refl
 
-  -- "9 | set not held | decoding a present text of set 3 to 6", and only then
-  pub nine-comes : 0 < length bytes → isMapped (setOf code) ≡ true → (size : ℕ) → decodeOf bytes code words size ≡ refusing setNotHeld
-  nine-comes is-present mapped size = decode-refused setNotHeld (points-mapped is-present mapped) size
-
-  pub nine-only : (size : ℕ) → decodeOf bytes code words size .refusal ≡ setNotHeld → (0 < length bytes) × (isMapped (setOf code) ≡ true)
+  -- what is refused before the page is looked at is refused of those points
+  refused-points : (number : ℕ) → (number ≡ shortPage → ⊥) → (number ≡ 0 → ⊥) → (size : ℕ) → decodeOf bytes code words size .refusal ≡ number
+      → pointsOf bytes code words ≡ refused number
   unfolding refusing giving
-  nine-only size nine = go (decode-case size)
+  refused-points number not-ten not-none size is = go (decode-case size)
     where
-      go : Case size → (0 < length bytes) × (isMapped (setOf code) ≡ true)
-      go (is-refused number e) = let r = points-refused number e in (r .1, r .2)
-      go (too-long points e h) = absurd (omega (arith, sym nine ∙ refusals (decode-gives points e size ∙ answer-short points size h)))
-      go (fitting points e h) = absurd (omega (arith, sym nine ∙ refusals (decode-gives points e size ∙ answer-fits points size h)))
+      go : Case size → pointsOf bytes code words ≡ refused number
+      go (is-refused n e) = e ∙ ap refused (sym (refusals (decode-refused n e size)) ∙ is)
+      go (too-long points e h) = absurd (not-ten (sym is ∙ refusals (decode-by e size ∙ answer-short points size h)))
+      go (fitting points e h) = absurd (not-none (sym is ∙ refusals (decode-by e size ∙ answer-fits points size h)))
+
+  -- "Refusal 9 now comes only for a mapping of no words.", for a present text of set 3 to 6, and then always
+  pub nine-comes : 0 < length bytes → isMapped (setOf code) ≡ true → length words ≡ 0 → (size : ℕ) → decodeOf bytes code words size ≡ refusing setNotHeld
+  nine-comes is-present mapped none size =
+      decode-refused setNotHeld (points-mapped is-present mapped ∙ mapped-none bytes (setOf code) words none) size
+
+  pub nine-only : (size : ℕ) → decodeOf bytes code words size .refusal ≡ setNotHeld
+      → (0 < length bytes) × (isMapped (setOf code) ≡ true) × (length words ≡ 0)
+  nine-only size nine =
+      let r = points-refused setNotHeld (refused-points setNotHeld (λ z. omega arith) (λ z. omega arith) size nine) in
+      (r .0, r .1, go (r .2))
+    where
+      go : Unmapped setNotHeld → length words ≡ 0
+      go (no-words e none) = none
+      go (no-mapping e some bad) = absurd (omega arith)
+
+  -- "12, only for a present text of set 3 to 6, a mapping with a count missing ..; after 9", and then always
+  pub twelve-comes : 0 < length bytes → isMapped (setOf code) ≡ true → (length words ≡ 0 → ⊥) → isMapping words ≡ false → (size : ℕ)
+      → decodeOf bytes code words size ≡ refusing badMapping
+  twelve-comes is-present mapped some bad size =
+      decode-refused badMapping (points-mapped is-present mapped ∙ mapped-bad bytes (setOf code) words some bad) size
+
+  pub twelve-only : (size : ℕ) → decodeOf bytes code words size .refusal ≡ badMapping
+      → (0 < length bytes) × (isMapped (setOf code) ≡ true) × (length words ≡ 0 → ⊥) × (isMapping words ≡ false)
+  twelve-only size twelve =
+      let r = points-refused badMapping (refused-points badMapping (λ z. omega arith) (λ z. omega arith) size twelve) in
+      let w = go (r .2) in (r .0, r .1, w .0, w .1)
+    where
+      go : Unmapped badMapping → (length words ≡ 0 → ⊥) × (isMapping words ≡ false)
+      go (no-words e none) = absurd (omega arith)
+      go (no-mapping e some bad) = (some, bad)
 
   -- "10 | short page | decoded text longer than the page lent", and only then
   pub ten-comes : (points : List ℕ) → pointsOf bytes code words ≡ gives points → (size : ℕ) → size < length (encoded points)
       → decodeOf bytes code words size ≡ refusing shortPage
-  ten-comes points e size h = decode-gives points e size ∙ answer-short points size h
+  ten-comes points e size h = decode-by e size ∙ answer-short points size h
 
   pub ten-only : (size : ℕ) → decodeOf bytes code words size .refusal ≡ shortPage
       → (points : List ℕ) × (pointsOf bytes code words ≡ gives points) × (size < length (encoded points))
   unfolding refusing giving
   ten-only size ten = go (decode-case size)
     where
-      go : Case size → (points : List ℕ) × (pointsOf bytes code words ≡ gives points) × (size < length (encoded points))
-      go (is-refused number e) =
-          absurd (omega (arith, points-refused number e .0, sym ten ∙ refusals (decode-refused number e size)))
-      go (too-long points e h) = (points, e, h)
-      go (fitting points e h) = absurd (omega (arith, sym ten ∙ refusals (decode-gives points e size ∙ answer-fits points size h)))
+      not-ten : {number : ℕ} → Unmapped number → number ≡ shortPage → ⊥
+      not-ten (no-words e none) z = omega arith
+      not-ten (no-mapping e some bad) z = omega arith
 
-  -- of Latin-1 a page of twice the bytes is never too short
+      go : Case size → (points : List ℕ) × (pointsOf bytes code words ≡ gives points) × (size < length (encoded points))
+      go (is-refused number e) = absurd (not-ten (points-refused number e .2) (sym (refusals (decode-refused number e size)) ∙ ten))
+      go (too-long points e h) = (points, e, h)
+      go (fitting points e h) = absurd (omega (arith, sym ten ∙ refusals (decode-by e size ∙ answer-fits points size h)))
+
+  -- ---- how long a page is long enough: by the most bytes that the text has
+  unfoldable size-of : Decoded → ℕ
+  size-of (refused number) = zero
+  size-of (gives points) = length (encoded points)
+
+  enough : (most : ℕ) → size-of (pointsOf bytes code words) ≤ most → (size : ℕ) → most ≤ size → decodeOf bytes code words size .refusal ≡ shortPage → ⊥
+  unfolding size-of
+  enough most below size room ten = let t = ten-only size ten in omega (arith, t .2, ap size-of (t .1))
+
+  latin1-size-of : isMapped (setOf code) ≡ false → ((i : ℕ) → getD bytes i 0 < 256) → size-of (pointsOf bytes code words) ≤ 2 * length bytes
+  unfolding size-of
+  latin1-size-of held small = omega (arith, latin1-length bytes small, ap size-of (points-latin1 held))
+
+  -- twice the bytes in Latin-1
   pub twice-is-enough : isMapped (setOf code) ≡ false → ((i : ℕ) → getD bytes i 0 < 256) → (size : ℕ) → 2 * length bytes ≤ size
       → decodeOf bytes code words size .refusal ≡ shortPage → ⊥
-  twice-is-enough held small size room ten =
-      let t = ten-only size ten in
-      omega (arith, t .2, latin1-length bytes small, ap points-length (sym (points-latin1 held) ∙ t .1))
+  twice-is-enough held small size = enough (2 * length bytes) (latin1-size-of held small) size
+
+  -- eight times the bytes in any set
+  pub eight-times-is-enough : ((i : ℕ) → getD bytes i 0 < 256) → (size : ℕ) → 8 * length bytes ≤ size → decodeOf bytes code words size .refusal ≡ shortPage → ⊥
+  unfolding size-of
+  eight-times-is-enough small size = enough (8 * length bytes) (by-bytes (length bytes) refl) size
     where
-      points-length : Decoded → ℕ
-      points-length (refused number) = zero
-      points-length (gives points) = length (encoded points)
+      by-mapping : (length words ≡ 0 → ⊥) → (t : Bool) → isMapping words ≡ t → size-of (mappedOf bytes (setOf code) words) ≤ 8 * length bytes
+      by-mapping some true m = omega (arith, text-most words (setOf code) bytes, ap size-of (mapped-good bytes (setOf code) words some m))
+      by-mapping some false m = omega (arith, ap size-of (mapped-bad bytes (setOf code) words some m))
+
+      by-words : (t : Bool) → eqb (length words) 0 ≡ t → size-of (mappedOf bytes (setOf code) words) ≤ 8 * length bytes
+      by-words true f = omega (arith, ap size-of (mapped-none bytes (setOf code) words (eqb-true (length words) 0 f)))
+      by-words false f = by-mapping (eqb-false (length words) 0 f) (isMapping words) refl
+
+      by-set : 0 < length bytes → (t : Bool) → isMapped (setOf code) ≡ t → size-of (pointsOf bytes code words) ≤ 8 * length bytes
+      by-set nonempty true m = omega (arith, by-words (eqb (length words) 0) refl, ap size-of (points-mapped nonempty m))
+      by-set nonempty false m = omega (arith, latin1-size-of m small)
+
+      by-bytes : (n : ℕ) → length bytes ≡ n → size-of (pointsOf bytes code words) ≤ 8 * length bytes
+      by-bytes zero z = omega (arith, ap length encoded-none, ap size-of (points-absent z))
+      by-bytes (suc n) z = by-set (omega arith) (isMapped (setOf code)) refl

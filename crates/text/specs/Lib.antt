@@ -10,6 +10,13 @@ pub mod CharsetLaws
 pub mod Ascii
 pub mod Utf8
 pub mod Utf8Laws
+pub mod Mapping
+pub mod Layout
+pub mod MappingLaws
+pub mod LayoutLaws
+pub mod Mapped
+pub mod Element
+pub mod MappedLaws
 pub mod Decode
 pub mod DecodeLaws
 pub mod White

@@ -10,7 +10,7 @@ ghost use Rattle.text.specs.Decode.{gives, answerIn, pageWith, decodeOf,
 ghost use Rattle.text.specs.Utf8.{blanked, encoded};
 use crate::charset::LATIN_1;
 use crate::charset::charset;
-use crate::refusal::SET_NOT_HELD;
+use crate::mapped::decode_mapped;
 use crate::refusal::SHORT_PAGE;
 use crate::utf8::blank_low;
 use crate::utf8::put_character;
@@ -99,7 +99,8 @@ fn decode_latin1(bytes: &[u8], ascii: bool, page: &mut [u8]) -> DecodeAnswer
     DecodeAnswer { refusal: 0, len }
 }
 
-// Decodes a string's bytes, of the set that a code names, to the start of a page; the caller may know that they are ASCII.
+// Decodes a string's bytes, of the set that a code names, to the start of a page, those of sets 3 to 6 by a mapping; the caller may know that they
+// are ASCII.
 pub(crate) fn decode_known(
     bytes: &[u8],
     ascii: bool,
@@ -114,16 +115,14 @@ pub(crate) fn decode_known(
     if bytes.len() == 0 {
         return DecodeAnswer { refusal: 0, len: 0 };
     }
-    if charset(code) != LATIN_1 {
-        return DecodeAnswer {
-            refusal: SET_NOT_HELD,
-            len: 0,
-        };
+    let set = charset(code);
+    if set != LATIN_1 {
+        return decode_mapped(bytes, set, mapping, page);
     }
     decode_latin1(bytes, ascii, page)
 }
 
-// Decodes a string's bytes, of the set that a code names, to the start of a page. A refusal changes nothing. (The Rust's
+// Decodes a string's bytes, of the set that a code names, to the start of a page, those of sets 3 to 6 by a mapping. A refusal changes nothing. (The Rust's
 // `decode_string`; its own `decode` leaves controls as they are.)
 pub fn decode(bytes: &[u8], code: u8, mapping: &[u32], page: &mut [u8]) -> DecodeAnswer
     ensures answer { λ r. ⌜ r ≡ decodeOf (now (bytes .entry)) code (now (mapping .entry)) (length (now (page .entry))) ⌝ }
