@@ -1,6 +1,6 @@
 -- Laws of decoding: what each string gives, and when each refusal comes. Assumes nothing.
 use mathlib.Core.Path.{_≡_, refl, sym, ap, _∙_}
-use mathlib.Core.Bool.{Bool, true, false}
+use mathlib.Core.Bool.{Bool, true, false, cond}
 use mathlib.Core.List.{List, [], _∷_}
 use Prim.Native.Nat.{ℕ, zero, suc, _*_, _≤_, _<_}
 use native.Mathlib.Omega.{arith}
@@ -12,9 +12,9 @@ use Rattle.sectors.specs.FillLaws.{fill-none, length-fill}
 use Rattle.text.specs.Refusal.{setNotHeld, shortPage, badMapping}
 use Rattle.text.specs.String.{present}
 use Rattle.text.specs.Charset.{setOf, isMapped}
-use Rattle.text.specs.Mapping.{isMapping}
+use Rattle.text.specs.Mapping.{allPoints, isMapping}
 use Rattle.text.specs.Mapped.{mappedPoints}
-use Rattle.text.specs.MappedLaws.{text-most}
+use Rattle.text.specs.MappedLaws.{bytes-sound, text-most, mapped-sound}
 use Rattle.text.specs.Utf8.{encoded}
 use Rattle.text.specs.Utf8Laws.{encoded-none, latin1-length}
 use Rattle.text.specs.Decode.{Decoded, refused, gives, latin1Points, mappedOf, pointsOf, refusing, giving, answerIn, pageWith, decodeOf, decodeInto}
@@ -170,38 +170,55 @@ module _ (bytes : List ℕ) (code : ℕ) (words : List ℕ) where
       go (fitting points e h) =
           absurd (refuses (refusals (decode-by e (length page) ∙ answer-fits points (length page) h)))
 
-  -- what is refused before the page is looked at: no words with 9, such as are no mapping with 12
-  pub data Unmapped (number : ℕ) : Type 0 where
-    no-words : number ≡ setNotHeld → length words ≡ 0 → Unmapped number
-    no-mapping : number ≡ badMapping → (length words ≡ 0 → ⊥) → isMapping words ≡ false → Unmapped number
+  -- The cases of what a string gives.
+  pub data Source : Type 0 where
+    absent : length bytes ≡ 0 → pointsOf bytes code words ≡ gives [] → Source
+    latin1 : isMapped (setOf code) ≡ false → pointsOf bytes code words ≡ gives bytes → Source
+    no-words : 0 < length bytes → isMapped (setOf code) ≡ true → length words ≡ 0 → pointsOf bytes code words ≡ refused setNotHeld → Source
+    no-mapping : 0 < length bytes → isMapped (setOf code) ≡ true → (length words ≡ 0 → ⊥) → isMapping words ≡ false → pointsOf bytes code words ≡ refused badMapping
+        → Source
+    by-mapping : isMapping words ≡ true → pointsOf bytes code words ≡ gives (mappedPoints words (setOf code) bytes) → Source
 
-  -- and only for a present text of set 3 to 6
-  pub points-refused : (number : ℕ) → pointsOf bytes code words ≡ refused number → (0 < length bytes) × (isMapped (setOf code) ≡ true) × Unmapped number
-  points-refused number e = by-bytes (length bytes) refl
+  -- one of them holds
+  pub source : Source
+  source = of-bytes (length bytes) refl
     where
-      number-of : Decoded → ℕ
-      number-of (refused n) = suc n
-      number-of (gives points) = zero
+      of-mapping : 0 < length bytes → isMapped (setOf code) ≡ true → (length words ≡ 0 → ⊥) → (t : Bool) → isMapping words ≡ t → Source
+      of-mapping is-present m some true f = by-mapping f (points-mapped is-present m ∙ mapped-good bytes (setOf code) words some f)
+      of-mapping is-present m some false f = no-mapping is-present m some f (points-mapped is-present m ∙ mapped-bad bytes (setOf code) words some f)
 
-      by-mapping : pointsOf bytes code words ≡ mappedOf bytes (setOf code) words → (length words ≡ 0 → ⊥) → (t : Bool) → isMapping words ≡ t → Unmapped number
-      by-mapping is some true m = absurd (omega (arith, ap number-of (sym e ∙ is ∙ mapped-good bytes (setOf code) words some m)))
-      by-mapping is some false m = no-mapping (omega (arith, ap number-of (sym e ∙ is ∙ mapped-bad bytes (setOf code) words some m))) some m
-
-      by-words : pointsOf bytes code words ≡ mappedOf bytes (setOf code) words → (t : Bool) → eqb (length words) 0 ≡ t → Unmapped number
-      by-words is true f =
+      of-words : 0 < length bytes → isMapped (setOf code) ≡ true → (t : Bool) → eqb (length words) 0 ≡ t → Source
+      of-words is-present m true f =
           let none = eqb-true (length words) 0 f in
-          no-words (omega (arith, ap number-of (sym e ∙ is ∙ mapped-none bytes (setOf code) words none))) none
-      by-words is false f = by-mapping is (eqb-false (length words) 0 f) (isMapping words) refl
+          no-words is-present m none (points-mapped is-present m ∙ mapped-none bytes (setOf code) words none)
+      of-words is-present m false f = of-mapping is-present m (eqb-false (length words) 0 f) (isMapping words) refl
 
-      by-set : 0 < length bytes → (t : Bool) → isMapped (setOf code) ≡ t → (0 < length bytes) × (isMapped (setOf code) ≡ true) × Unmapped number
-      by-set nonempty true m = (nonempty, m, by-words (points-mapped nonempty m) (eqb (length words) 0) refl)
-      by-set nonempty false m = absurd (omega (arith, ap number-of (sym e ∙ points-latin1 m)))
+      of-set : 0 < length bytes → (t : Bool) → isMapped (setOf code) ≡ t → Source
+      of-set is-present true m = of-words is-present m (eqb (length words) 0) refl
+      of-set is-present false m = latin1 m (points-latin1 m)
 
-      by-bytes : (n : ℕ) → length bytes ≡ n → (0 < length bytes) × (isMapped (setOf code) ≡ true) × Unmapped number
-      by-bytes zero z = absurd (omega (arith, ap number-of (sym e ∙ points-absent z)))
-      by-bytes (suc n) z = by-set (omega arith) (isMapped (setOf code)) refl
+      of-bytes : (n : ℕ) → length bytes ≡ n → Source
+      of-bytes zero z = absent z (points-absent z)
+      of-bytes (suc n) z = of-set (omega arith) (isMapped (setOf code)) refl
 
-  -- what is refused before the page is looked at is refused of those points
+  -- a refusal before the page is looked at, as one more than its number; 0 if there is none
+  unfoldable refusal-of : Decoded → ℕ
+  refusal-of (refused number) = suc number
+  refusal-of (gives points) = zero
+
+  -- it is 9 or 12
+  refused-not-ten : (number : ℕ) → pointsOf bytes code words ≡ refused number → number ≡ shortPage → ⊥
+  unfolding refusal-of
+  refused-not-ten number e ten = go source
+    where
+      go : Source → ⊥
+      go (absent none is) = omega (arith, ap refusal-of (sym e ∙ is))
+      go (latin1 m is) = omega (arith, ap refusal-of (sym e ∙ is))
+      go (no-words is-present m none is) = omega (arith, ap refusal-of (sym e ∙ is))
+      go (no-mapping is-present m some bad is) = omega (arith, ap refusal-of (sym e ∙ is))
+      go (by-mapping good is) = omega (arith, ap refusal-of (sym e ∙ is))
+
+  -- what is refused with 9 or 12 is refused before the page is looked at
   refused-points : (number : ℕ) → (number ≡ shortPage → ⊥) → (number ≡ 0 → ⊥) → (size : ℕ) → decodeOf bytes code words size .refusal ≡ number
       → pointsOf bytes code words ≡ refused number
   unfolding refusing giving
@@ -219,13 +236,18 @@ module _ (bytes : List ℕ) (code : ℕ) (words : List ℕ) where
 
   pub nine-only : (size : ℕ) → decodeOf bytes code words size .refusal ≡ setNotHeld
       → (0 < length bytes) × (isMapped (setOf code) ≡ true) × (length words ≡ 0)
-  nine-only size nine =
-      let r = points-refused setNotHeld (refused-points setNotHeld (λ z. omega arith) (λ z. omega arith) size nine) in
-      (r .0, r .1, go (r .2))
+  unfolding refusal-of
+  nine-only size nine = go source
     where
-      go : Unmapped setNotHeld → length words ≡ 0
-      go (no-words e none) = none
-      go (no-mapping e some bad) = absurd (omega arith)
+      e : pointsOf bytes code words ≡ refused setNotHeld
+      e = refused-points setNotHeld (λ z. omega arith) (λ z. omega arith) size nine
+
+      go : Source → (0 < length bytes) × (isMapped (setOf code) ≡ true) × (length words ≡ 0)
+      go (absent none is) = absurd (omega (arith, ap refusal-of (sym e ∙ is)))
+      go (latin1 m is) = absurd (omega (arith, ap refusal-of (sym e ∙ is)))
+      go (no-words is-present m none is) = (is-present, m, none)
+      go (no-mapping is-present m some bad is) = absurd (omega (arith, ap refusal-of (sym e ∙ is)))
+      go (by-mapping good is) = absurd (omega (arith, ap refusal-of (sym e ∙ is)))
 
   -- "12, only for a present text of set 3 to 6, a mapping with a count missing ..; after 9", and then always
   pub twelve-comes : 0 < length bytes → isMapped (setOf code) ≡ true → (length words ≡ 0 → ⊥) → isMapping words ≡ false → (size : ℕ)
@@ -235,13 +257,18 @@ module _ (bytes : List ℕ) (code : ℕ) (words : List ℕ) where
 
   pub twelve-only : (size : ℕ) → decodeOf bytes code words size .refusal ≡ badMapping
       → (0 < length bytes) × (isMapped (setOf code) ≡ true) × (length words ≡ 0 → ⊥) × (isMapping words ≡ false)
-  twelve-only size twelve =
-      let r = points-refused badMapping (refused-points badMapping (λ z. omega arith) (λ z. omega arith) size twelve) in
-      let w = go (r .2) in (r .0, r .1, w .0, w .1)
+  unfolding refusal-of
+  twelve-only size twelve = go source
     where
-      go : Unmapped badMapping → (length words ≡ 0 → ⊥) × (isMapping words ≡ false)
-      go (no-words e none) = absurd (omega arith)
-      go (no-mapping e some bad) = (some, bad)
+      e : pointsOf bytes code words ≡ refused badMapping
+      e = refused-points badMapping (λ z. omega arith) (λ z. omega arith) size twelve
+
+      go : Source → (0 < length bytes) × (isMapped (setOf code) ≡ true) × (length words ≡ 0 → ⊥) × (isMapping words ≡ false)
+      go (absent none is) = absurd (omega (arith, ap refusal-of (sym e ∙ is)))
+      go (latin1 m is) = absurd (omega (arith, ap refusal-of (sym e ∙ is)))
+      go (no-words is-present m none is) = absurd (omega (arith, ap refusal-of (sym e ∙ is)))
+      go (no-mapping is-present m some bad is) = (is-present, m, some, bad)
+      go (by-mapping good is) = absurd (omega (arith, ap refusal-of (sym e ∙ is)))
 
   -- "10 | short page | decoded text longer than the page lent", and only then
   pub ten-comes : (points : List ℕ) → pointsOf bytes code words ≡ gives points → (size : ℕ) → size < length (encoded points)
@@ -253,50 +280,62 @@ module _ (bytes : List ℕ) (code : ℕ) (words : List ℕ) where
   unfolding refusing giving
   ten-only size ten = go (decode-case size)
     where
-      not-ten : {number : ℕ} → Unmapped number → number ≡ shortPage → ⊥
-      not-ten (no-words e none) z = omega arith
-      not-ten (no-mapping e some bad) z = omega arith
-
       go : Case size → (points : List ℕ) × (pointsOf bytes code words ≡ gives points) × (size < length (encoded points))
-      go (is-refused number e) = absurd (not-ten (points-refused number e .2) (sym (refusals (decode-refused number e size)) ∙ ten))
+      go (is-refused number e) = absurd (refused-not-ten number e (sym (refusals (decode-refused number e size)) ∙ ten))
       go (too-long points e h) = (points, e, h)
       go (fitting points e h) = absurd (omega (arith, sym ten ∙ refusals (decode-by e size ∙ answer-fits points size h)))
 
-  -- ---- how long a page is long enough: by the most bytes that the text has
-  unfoldable size-of : Decoded → ℕ
-  size-of (refused number) = zero
-  size-of (gives points) = length (encoded points)
+  -- ---- a page that is long enough
+  -- a text of bytes has at most eight for each: twice as many as they are in Latin-1
+  text-size : ((i : ℕ) → getD bytes i 0 < 256) → (points : List ℕ) → pointsOf bytes code words ≡ gives points → length (encoded points) ≤ 8 * length bytes
+  text-size small points e = go source
+    where
+      size-of : Decoded → ℕ
+      size-of (refused number) = zero
+      size-of (gives points) = length (encoded points)
 
-  enough : (most : ℕ) → size-of (pointsOf bytes code words) ≤ most → (size : ℕ) → most ≤ size → decodeOf bytes code words size .refusal ≡ shortPage → ⊥
-  unfolding size-of
-  enough most below size room ten = let t = ten-only size ten in omega (arith, t .2, ap size-of (t .1))
+      go : Source → length (encoded points) ≤ 8 * length bytes
+      go (absent none is) = omega (arith, ap length encoded-none, ap size-of (sym e ∙ is))
+      go (latin1 m is) = omega (arith, latin1-length bytes small, ap size-of (sym e ∙ is))
+      go (no-words is-present m none is) = omega (arith, ap size-of (sym e ∙ is))
+      go (no-mapping is-present m some bad is) = omega (arith, ap size-of (sym e ∙ is))
+      go (by-mapping good is) = omega (arith, text-most words (setOf code) bytes, ap size-of (sym e ∙ is))
 
-  latin1-size-of : isMapped (setOf code) ≡ false → ((i : ℕ) → getD bytes i 0 < 256) → size-of (pointsOf bytes code words) ≤ 2 * length bytes
-  unfolding size-of
-  latin1-size-of held small = omega (arith, latin1-length bytes small, ap size-of (points-latin1 held))
+  pub eight-times-is-enough : ((i : ℕ) → getD bytes i 0 < 256) → (size : ℕ) → 8 * length bytes ≤ size → decodeOf bytes code words size .refusal ≡ shortPage → ⊥
+  eight-times-is-enough small size room ten = let t = ten-only size ten in omega (arith, t .2, text-size small (t .0) (t .1))
 
-  -- twice the bytes in Latin-1
+  -- in Latin-1 twice as many are
   pub twice-is-enough : isMapped (setOf code) ≡ false → ((i : ℕ) → getD bytes i 0 < 256) → (size : ℕ) → 2 * length bytes ≤ size
       → decodeOf bytes code words size .refusal ≡ shortPage → ⊥
-  twice-is-enough held small size = enough (2 * length bytes) (latin1-size-of held small) size
-
-  -- eight times the bytes in any set
-  pub eight-times-is-enough : ((i : ℕ) → getD bytes i 0 < 256) → (size : ℕ) → 8 * length bytes ≤ size → decodeOf bytes code words size .refusal ≡ shortPage → ⊥
-  unfolding size-of
-  eight-times-is-enough small size = enough (8 * length bytes) (by-bytes (length bytes) refl) size
+  twice-is-enough held small size room ten =
+      let t = ten-only size ten in
+      omega (arith, t .2, latin1-length bytes small, ap size-of (sym (points-latin1 held) ∙ t .1))
     where
-      by-mapping : (length words ≡ 0 → ⊥) → (t : Bool) → isMapping words ≡ t → size-of (mappedOf bytes (setOf code) words) ≤ 8 * length bytes
-      by-mapping some true m = omega (arith, text-most words (setOf code) bytes, ap size-of (mapped-good bytes (setOf code) words some m))
-      by-mapping some false m = omega (arith, ap size-of (mapped-bad bytes (setOf code) words some m))
+      size-of : Decoded → ℕ
+      size-of (refused number) = zero
+      size-of (gives points) = length (encoded points)
 
-      by-words : (t : Bool) → eqb (length words) 0 ≡ t → size-of (mappedOf bytes (setOf code) words) ≤ 8 * length bytes
-      by-words true f = omega (arith, ap size-of (mapped-none bytes (setOf code) words (eqb-true (length words) 0 f)))
-      by-words false f = by-mapping (eqb-false (length words) 0 f) (isMapping words) refl
+  -- ---- what decoding gives is Unicode: no surrogate, none above hexadecimal 10FFFF
+  pub gives-sound : ((i : ℕ) → getD bytes i 0 < 256) → (points : List ℕ) → pointsOf bytes code words ≡ gives points → allPoints points ≡ true
+  unfolding allPoints
+  gives-sound small points e = go source
+    where
+      points-in : Decoded → List ℕ
+      points-in (refused number) = []
+      points-in (gives points) = points
 
-      by-set : 0 < length bytes → (t : Bool) → isMapped (setOf code) ≡ t → size-of (pointsOf bytes code words) ≤ 8 * length bytes
-      by-set nonempty true m = omega (arith, by-words (eqb (length words) 0) refl, ap size-of (points-mapped nonempty m))
-      by-set nonempty false m = omega (arith, latin1-size-of m small)
+      same : {d : Decoded} → pointsOf bytes code words ≡ d → points ≡ points-in d
+      same is = ap points-in (sym e ∙ is)
 
-      by-bytes : (n : ℕ) → length bytes ≡ n → size-of (pointsOf bytes code words) ≤ 8 * length bytes
-      by-bytes zero z = omega (arith, ap length encoded-none, ap size-of (points-absent z))
-      by-bytes (suc n) z = by-set (omega arith) (isMapped (setOf code)) refl
+      go : Source → allPoints points ≡ true
+      go (absent none is) = ap allPoints (same is)
+      go (latin1 m is) = ap allPoints (same is) ∙ bytes-sound bytes small
+      go (no-words is-present m none is) = ap allPoints (same is)
+      go (no-mapping is-present m some bad is) = ap allPoints (same is)
+      go (by-mapping good is) = ap allPoints (same is) ∙ mapped-sound words good (setOf code) bytes
+
+-- with no words all is as before mappings were lent
+pub points-no-words : (bytes : List ℕ) (code : ℕ)
+    → pointsOf bytes code [] ≡ cond (present bytes) (cond (isMapped (setOf code)) (refused setNotHeld) (gives (latin1Points bytes))) (gives [])
+unfolding pointsOf mappedOf
+points-no-words bytes code = refl

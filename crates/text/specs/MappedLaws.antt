@@ -5,13 +5,14 @@ use mathlib.Core.Bool.{Bool, true, false, cond, _&&_, _||_, and-eq-true-iff, tru
 use mathlib.Core.List.{List, [], _∷_, _++_, flatMap, append-nil}
 use Prim.Native.Nat.{ℕ, zero, suc, _+_, _*_, _-_, _≤_, _<_}
 use native.Mathlib.Omega.{arith}
-use borrow.Author.Tests.{ltb-true, leb-true, lt-ltb, le-ltb}
+use borrow.Author.Tests.{ltb-true, leb-true, lt-ltb, le-ltb, lt-leb}
 use lib.Dec.{leb, ltb, eqb}
-use lib.ListN.{length, getD, drop, length-drop, drop-of-length-le, length-append}
+use lib.ListN.{length, getD, drop, length-drop, drop-of-length-le, length-append, replicate}
 use lib.Seq.{drop-cons, drop-drop}
+use Rattle.sectors.specs.Fill.{part}
 use Rattle.text.specs.Utf8.{utf8, blanked, encoded}
 use Rattle.text.specs.Utf8Laws.{encoded-append, encoded-none, encoded-length}
-use Rattle.text.specs.Mapping.{singlesOf, pairsOf, doublesOf, doubleCount, isSound, isMapping, doubleBase, singleWidth, pairWidth, isPoint, isValue, entriesSound, allPoints, found, lookupIn}
+use Rattle.text.specs.Mapping.{countAt, behind, entriesAt, pairsAt, doublesAt, wordsEnd, singlesOf, pairsOf, doublesOf, doubleCount, isWhole, isSound, isMapping, doubleBase, singleWidth, pairWidth, isPoint, isValue, entriesSound, allPoints, found, notFound, lookupIn}
 use Rattle.text.specs.MappingLaws.{Rising, drop-two, sound-rising, sound-value, doubles-length, mapping-is}
 use Rattle.text.specs.Mapped.{replacement, valueIn, pairKey, shiftJis, isReserved, isPair, valuesOf, valuePoints, pointsByLists, mappedPoints}
 use Rattle.text.specs.Element.{singleAt, pairAt, elementOf, valueText, mappedText}
@@ -83,10 +84,10 @@ point-below n e = go (ltb n 0xd800) refl (ltb 0xdfff n) refl (ltb n 0x110000) re
     go false f false g c h e = absurd (true≢false (sym e))
 
 -- every word of points is one
-points-at : (l : List ℕ) → allPoints l ≡ true → (i : ℕ) → getD l i 0 < 0x110000
-unfolding allPoints
-points-at [] e i = omega arith
-points-at (x ∷ xs) e zero = point-below x (and-eq-true-iff (isPoint x) (allPoints xs) .0 e .0)
+points-at : (l : List ℕ) → allPoints l ≡ true → (i : ℕ) → isPoint (getD l i 0) ≡ true
+unfolding allPoints isPoint
+points-at [] e i = refl
+points-at (x ∷ xs) e zero = and-eq-true-iff (isPoint x) (allPoints xs) .0 e .0
 points-at (x ∷ xs) e (suc i) = points-at xs (and-eq-true-iff (isPoint x) (allPoints xs) .0 e .1) i
 
 -- what the test of a value says
@@ -156,8 +157,8 @@ module _ (words : List ℕ) (mapping : isMapping words ≡ true) where
       record {
         point = v .0;
         inside = λ k. let b = v .1 k in omega arith;
-        first = λ k. points-at (doublesOf words) (lists .2) (2 * (value - doubleBase));
-        second = λ k. points-at (doublesOf words) (lists .2) (2 * (value - doubleBase) + 1);
+        first = λ k. point-below _ (points-at (doublesOf words) (lists .2) (2 * (value - doubleBase)));
+        second = λ k. point-below _ (points-at (doublesOf words) (lists .2) (2 * (value - doubleBase) + 1));
       }
 
 -- ---- one element after another
@@ -271,3 +272,79 @@ unfolding mappedPoints pointsByLists
 text-most words set bytes =
     let values = valuesOf (singlesOf words) (pairsOf words) set bytes in
     omega (arith, encoded-length (flatMap (valuePoints (doublesOf words)) values) .1, values-points (doublesOf words) values, values-bytes (singlesOf words) (pairsOf words) set bytes)
+
+-- ---- what a text is made of
+-- code points behind code points
+points-append : (a b : List ℕ) → allPoints a ≡ true → allPoints b ≡ true → allPoints (a ++ b) ≡ true
+unfolding allPoints
+points-append [] b e f = f
+points-append (x ∷ a) b e f =
+    let both = and-eq-true-iff (isPoint x) (allPoints a) .0 e in
+    and-eq-true-iff (isPoint x) (allPoints (a ++ b)) .1 (both .0, points-append a b (both .1) f)
+
+-- bytes are code points
+pub bytes-sound : (bytes : List ℕ) → ((i : ℕ) → getD bytes i 0 < 256) → allPoints bytes ≡ true
+unfolding allPoints isPoint
+bytes-sound [] small = refl
+bytes-sound (byte ∷ bytes) small = let first = small 0 in simp (lt-ltb byte 0xd800 (omega arith), bytes-sound bytes (λ i. small (suc i)))
+
+-- a value below 2^31 is a code point
+value-point : (count value : ℕ) → isValue count value ≡ true → value < doubleBase → isPoint value ≡ true
+unfolding isValue
+value-point count value e h = go (isPoint value) e
+  where
+    go : (t : Bool) → (t || leb doubleBase value && ltb value (doubleBase + count)) ≡ true → t ≡ true
+    go true e = refl
+    go false e = sym (ap (λ (b : Bool). b && ltb value (doubleBase + count)) (lt-leb doubleBase value h)) ∙ e
+
+module _ (words : List ℕ) (mapping : isMapping words ≡ true) where
+  value-sound : (value : ℕ) → isValue (doubleCount words) value ≡ true → allPoints (valuePoints (doublesOf words) value) ≡ true
+  unfolding valuePoints allPoints
+  value-sound value e = go (ltb value doubleBase) refl
+    where
+      go : (t : Bool) → ltb value doubleBase ≡ t
+          → allPoints (cond t (value ∷ []) (getD (doublesOf words) (2 * (value - doubleBase)) 0 ∷ getD (doublesOf words) (2 * (value - doubleBase) + 1) 0 ∷ [])) ≡ true
+      go true f = simp (value-point (doubleCount words) value e (ltb-true value doubleBase f))
+      go false f =
+          simp (points-at (doublesOf words) (lists words mapping .2) (2 * (value - doubleBase)), points-at (doublesOf words) (lists words mapping .2) (2 * (value - doubleBase) + 1))
+
+  single-sound : (byte : ℕ) → allPoints (valuePoints (doublesOf words) (valueIn (singlesOf words) byte)) ≡ true
+  single-sound byte = value-sound (valueIn (singlesOf words) byte) (value-is singleWidth (doubleCount words) (singlesOf words) (lists words mapping .0) byte)
+
+  pair-sound : (key : ℕ) → allPoints (valuePoints (doublesOf words) (valueIn (pairsOf words) key)) ≡ true
+  pair-sound key = value-sound (valueIn (pairsOf words) key) (value-is pairWidth (doubleCount words) (pairsOf words) (lists words mapping .1) key)
+
+  -- every code point of a text is one: no surrogate, none above hexadecimal 10FFFF
+  pub mapped-sound : (set : ℕ) (bytes : List ℕ) → allPoints (mappedPoints words set bytes) ≡ true
+  unfolding mappedPoints pointsByLists valuesOf flatMap allPoints
+  mapped-sound set [] = refl
+  mapped-sound set (byte ∷ []) = points-append (valuePoints (doublesOf words) (valueIn (singlesOf words) byte)) [] (single-sound byte) refl
+  mapped-sound set (byte ∷ next ∷ rest) = go (isPair (singlesOf words) (pairsOf words) set key) (mapped-sound set rest) (mapped-sound set (next ∷ rest))
+    where
+      key : ℕ
+      key = pairKey byte next
+
+      values : List ℕ → List ℕ
+      values l = valuesOf (singlesOf words) (pairsOf words) set l
+
+      go : (t : Bool) → allPoints (mappedPoints words set rest) ≡ true → allPoints (mappedPoints words set (next ∷ rest)) ≡ true
+          → allPoints (flatMap (valuePoints (doublesOf words)) (cond t (valueIn (pairsOf words) key ∷ values rest) (valueIn (singlesOf words) byte ∷ values (next ∷ rest)))) ≡ true
+      go true e f = points-append (valuePoints (doublesOf words) (valueIn (pairsOf words) key)) (mappedPoints words set rest) (pair-sound key) e
+      go false e f = points-append (valuePoints (doublesOf words) (valueIn (singlesOf words) byte)) (mappedPoints words set (next ∷ rest)) (single-sound byte) f
+
+-- ---- a mapping without entries
+abbrev pub emptyMapping : List ℕ
+emptyMapping = 0 ∷ 0 ∷ 0 ∷ []
+
+pub empty-is-mapping : isMapping emptyMapping ≡ true
+unfolding isMapping isWhole isSound singlesOf pairsOf doublesOf entriesAt doubleCount pairsAt doublesAt wordsEnd behind countAt part entriesSound allPoints
+empty-is-mapping = refl
+
+-- gives U+FFFD for each byte, where no two of them are taken together as a reserved pair
+pub empty-replaces : (set : ℕ) (bytes : List ℕ) → ((i : ℕ) → (eqb set shiftJis && isReserved (pairKey (getD bytes i 0) (getD bytes (suc i) 0))) ≡ false)
+    → mappedPoints emptyMapping set bytes ≡ replicate (length bytes) replacement
+unfolding mappedPoints pointsByLists valuesOf isPair valueIn valuePoints flatMap lookupIn notFound singlesOf pairsOf doublesOf entriesAt pairsAt doublesAt behind countAt part
+empty-replaces set [] none = refl
+empty-replaces set (byte ∷ []) none = refl
+empty-replaces set (byte ∷ next ∷ rest) none =
+    simp (none 0) (ap (λ (l : List ℕ). replacement ∷ l) (empty-replaces set (next ∷ rest) (λ i. none (suc i))))
