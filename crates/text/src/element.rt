@@ -65,10 +65,10 @@ pub(crate) fn element_at(bytes: &[u8], i: usize, set: u8, singles: &[u32], pairs
         };
     }
     let key = byte as u32 * 256 + bytes[i + 1] as u32;
-    let found = lookup(pairs, key);
-    if found.there {
+    let pair = lookup(pairs, key);
+    if pair.there {
         return Element {
-            value: found.value,
+            value: pair.value,
             size: 2,
         };
     }
