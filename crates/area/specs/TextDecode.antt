@@ -67,11 +67,11 @@ unfoldable pub trackTextBy : List ℕ → Area → List Track → ℕ → ℕ �
 trackTextBy lent area tracks number item =
     trackTextIn lent area (length tracks) (placeOf (getD tracks (trackIndex number) noTrack .text) item) number item
 
--- "Every refusal .. changes no lent memory." Then "9, 10" are the layer of texts'.
-unfoldable pub textAnswer : Text → ℕ → DecodeAnswer
-textAnswer (refused number) size = refusing number
-textAnswer (found bytes code) size = decodeOf bytes code size
+-- "Every refusal .. changes no lent memory." Then 9, 12, 10 are the layer of texts': 12 comes "after 9, before 10" (02, item 1).
+unfoldable pub textAnswer : Text → List ℕ → ℕ → DecodeAnswer
+textAnswer (refused number) words size = refusing number
+textAnswer (found bytes code) words size = decodeOf bytes code words size
 
-unfoldable pub textPage : Text → List ℕ → List ℕ
-textPage (refused number) page = page
-textPage (found bytes code) page = decodeInto bytes code page
+unfoldable pub textPage : Text → List ℕ → List ℕ → List ℕ
+textPage (refused number) words page = page
+textPage (found bytes code) words page = decodeInto bytes code words page

@@ -22,16 +22,17 @@ use Rattle.area.specs.Track.{noTrack}
 use Rattle.area.specs.TextDecode.{Text, refused, found, tableShort, noSuchArea, noSuchTrack, textAt, placeOf, textOf, areaTextIn, trackTextIn, textAnswer, textPage}
 use Rattle.area.specs.declared.area.Area.{Area}
 
-module _ (text : Text) (old : List ℕ) where
+module _ (text : Text) (words old : List ℕ) where
   pub asked-refused : (number : ℕ) → text ≡ refused number
-      → (_≡_ {A = DecodeAnswer} (record { refusal = number; len = 0 }) (textAnswer text (length old))) × (old ≡ textPage text old)
+      → (_≡_ {A = DecodeAnswer} (record { refusal = number; len = 0 }) (textAnswer text words (length old))) × (old ≡ textPage text words old)
   unfolding textAnswer textPage
   asked-refused number e = rw e (sym (refusing-is number), refl)
 
   pub asked-found : (bytes string : List ℕ) (code : ℕ) (answer : DecodeAnswer) (page : List ℕ) → text ≡ found string code → bytes ≡ string
-      → answer ≡ decodeOf bytes code (length old) → page ≡ decodeInto bytes code old → (answer ≡ textAnswer text (length old)) × (page ≡ textPage text old)
+      → answer ≡ decodeOf bytes code words (length old) → page ≡ decodeInto bytes code words old
+      → (answer ≡ textAnswer text words (length old)) × (page ≡ textPage text words old)
   unfolding textAnswer textPage
-  asked-found bytes string code answer page e same a p = rw e (decode-same same code old (a, p))
+  asked-found bytes string code answer page e same a p = rw e (decode-same same code words old (a, p))
 
 -- ---- what is lent is not short from the largest table on
 pub large-not-short : (bytes : ℕ) (area : Area) → maxTableBytes ≤ bytes → tableShort bytes area ≡ false

@@ -34,19 +34,26 @@ fn no_such_area(area: Area) -> bool
 }
 
 // Decodes the text at a place of an area's table, 0 for an absent one.
-fn decode_at(lent: &[u8], area: Area, place: u32, page: &mut [u8]) -> DecodeAnswer
-    ensures answer { λ r. ⌜ r ≡ decodeOf (textAt (now (lent .entry)) area place) (area .«text_charset») (length (now (page .entry))) ⌝ }
-    ensures filled { λ r. ⌜ now (page .exit) ≡ decodeInto (textAt (now (lent .entry)) area place) (area .«text_charset») (now (page .entry)) ⌝ }
+fn decode_at(lent: &[u8], area: Area, place: u32, mapping: &[u32], page: &mut [u8]) -> DecodeAnswer
+    ensures answer { λ r. ⌜ r ≡ decodeOf (textAt (now (lent .entry)) area place) (area .«text_charset») (now (mapping .entry)) (length (now (page .entry))) ⌝ }
+    ensures filled { λ r. ⌜
+        now (page .exit) ≡ decodeInto (textAt (now (lent .entry)) area place) (area .«text_charset») (now (mapping .entry)) (now (page .entry)) ⌝ }
 {
     let origin = area.origin;
     let table = table_bytes(lent, origin.toc_sectors);
-    decode_placed(table, place, area.text_charset, page)
+    decode_placed(table, place, area.text_charset, mapping, page)
 }
 
 // Decodes a text of an area, by its item index, to the start of a page.
-pub fn decode_area_text(table: &[u8], area: Area, item: u32, page: &mut [u8]) -> DecodeAnswer
-    ensures answer { λ r. ⌜ r ≡ textAnswer (areaTextIn (now (table .entry)) area item) (length (now (page .entry))) ⌝ }
-    ensures filled { λ r. ⌜ now (page .exit) ≡ textPage (areaTextIn (now (table .entry)) area item) (now (page .entry)) ⌝ }
+pub fn decode_area_text(
+    table: &[u8],
+    area: Area,
+    item: u32,
+    mapping: &[u32],
+    page: &mut [u8],
+) -> DecodeAnswer
+    ensures answer { λ r. ⌜ r ≡ textAnswer (areaTextIn (now (table .entry)) area item) (now (mapping .entry)) (length (now (page .entry))) ⌝ }
+    ensures filled { λ r. ⌜ now (page .exit) ≡ textPage (areaTextIn (now (table .entry)) area item) (now (mapping .entry)) (now (page .entry)) ⌝ }
 {
     if table_short(table.len(), area) {
         return DecodeAnswer {
@@ -62,7 +69,7 @@ pub fn decode_area_text(table: &[u8], area: Area, item: u32, page: &mut [u8]) ->
     }
     let places = area.text;
     let text = places[item as usize];
-    decode_at(table, area, text.place, page)
+    decode_at(table, area, text.place, mapping, page)
 }
 
 // The place in a list of the track of a number; for 0 the first.
@@ -90,10 +97,13 @@ pub fn decode_of_track(
     place: u32,
     number: u32,
     item: u32,
+    mapping: &[u32],
     page: &mut [u8],
 ) -> DecodeAnswer
-    ensures answer { λ r. ⌜ r ≡ textAnswer (trackTextIn (now (table .entry)) area room place number item) (length (now (page .entry))) ⌝ }
-    ensures filled { λ r. ⌜ now (page .exit) ≡ textPage (trackTextIn (now (table .entry)) area room place number item) (now (page .entry)) ⌝ }
+    ensures answer { λ r. ⌜
+        r ≡ textAnswer (trackTextIn (now (table .entry)) area room place number item) (now (mapping .entry)) (length (now (page .entry))) ⌝ }
+    ensures filled { λ r. ⌜
+        now (page .exit) ≡ textPage (trackTextIn (now (table .entry)) area room place number item) (now (mapping .entry)) (now (page .entry)) ⌝ }
 {
     if table_short(table.len(), area) | (room < MAX_TRACKS) {
         return DecodeAnswer {
@@ -107,7 +117,7 @@ pub fn decode_of_track(
             len: 0,
         };
     }
-    decode_at(table, area, place, page)
+    decode_at(table, area, place, mapping, page)
 }
 
 // Decodes a text of a track, by its number and item index, to the start of a page.
@@ -117,10 +127,20 @@ pub fn decode_track_text(
     tracks: &[Track],
     number: u32,
     item: u32,
+    mapping: &[u32],
     page: &mut [u8],
 ) -> DecodeAnswer
-    ensures { λ r. ⌜ (r ≡ textAnswer (trackTextBy (now (table .entry)) area (now (tracks .entry)) number item) (length (now (page .entry)))) × (now (page .exit) ≡ textPage (trackTextBy (now (table .entry)) area (now (tracks .entry)) number item) (now (page .entry))) ⌝ }
+    ensures { λ r. ⌜ (r ≡ textAnswer (trackTextBy (now (table .entry)) area (now (tracks .entry)) number item) (now (mapping .entry)) (length (now (page .entry)))) × (now (page .exit) ≡ textPage (trackTextBy (now (table .entry)) area (now (tracks .entry)) number item) (now (mapping .entry)) (now (page .entry))) ⌝ }
 {
     let place = place_at(tracks, track_index(number), item);
-    decode_of_track(table, area, tracks.len(), place, number, item, page)
+    decode_of_track(
+        table,
+        area,
+        tracks.len(),
+        place,
+        number,
+        item,
+        mapping,
+        page,
+    )
 }

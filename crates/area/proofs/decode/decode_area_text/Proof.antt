@@ -16,19 +16,19 @@ table-short-requires c κs = search needs
 
 returns : tie.Need-returns
 unfolding areaTextIn
-returns c = let a = c .before .before .before .before .args in
+returns c = let a = c .before .before .before .before .before .args in
     let short = sym (c .before .table-short .ensures) ∙ c .if1 .taken in
-    asked-refused _ (now (a .page)) 2 (simp short)
+    asked-refused _ (now (a .mapping)) (now (a .page)) 2 (simp short)
 
 no-such-area-requires : tie.Need-no-such-area-requires
 no-such-area-requires c κs = search needs
 
 returns-2 : tie.Need-returns-2
 unfolding areaTextIn
-returns-2 c = let a = c .before .before .before .before .before .before .args in
+returns-2 c = let a = c .before .before .before .before .before .before .before .args in
     let short = sym (c .before .before .before .table-short .ensures) ∙ c .before .before .if1 .left in
     let none = sym (ap (λ (t : Bool). t || leb 4 (a .item)) (c .before .no-such-area .ensures)) ∙ c .if2 .taken in
-    asked-refused _ (now (a .page)) 8 (simp (short, none))
+    asked-refused _ (now (a .mapping)) (now (a .page)) 8 (simp (short, none))
 
 mul-text : tie.Need-mul-text
 mul-text c = search needs
@@ -45,10 +45,10 @@ same-length c = search needs
 returns-3 : tie.Need-returns-3
 unfolding areaTextIn textOf placeOf
 returns-3 c = let k = c .before .before .before .before .before .before in
-    let a = k .before .before .before .before .before .before .args in
+    let a = k .before .before .before .before .before .before .before .args in
     let short = sym (k .before .before .before .table-short .ensures) ∙ k .before .before .if1 .left in
     let none = sym (ap (λ (t : Bool). t || leb 4 (a .item)) (k .before .no-such-area .ensures)) ∙ k .if2 .left in
-    asked-found _ (now (a .page)) _ _ _ _ _ (simp (short, none)) refl (c .before .before .decode-at .ensures .0) (c .before .before .decode-at .ensures .1)
+    asked-found _ (now (a .mapping)) (now (a .page)) _ _ _ _ _ (simp (short, none)) refl (c .before .before .decode-at .ensures .0) (c .before .before .decode-at .ensures .1)
 
 pub decode-area-text-spec : {M : Type 1} → statement M
 decode-area-text-spec =

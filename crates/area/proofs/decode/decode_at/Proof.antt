@@ -22,9 +22,9 @@ same-length c = search needs
 returns : tie.Need-returns
 unfolding textAt
 returns c =
-    let k = c .before .before .before .before in let a = k .before .before .before .before .args in
+    let k = c .before .before .before .before in let a = k .before .before .before .before .before .args in
     let same = ap (λ (t : List ℕ). placedString t (a .place)) (k .table-bytes .ensures) in
-    decode-same same (a .area .«text_charset») (now (a .page)) (c .before .before .decode-placed .ensures)
+    decode-same same (a .area .«text_charset») (now (a .mapping)) (now (a .page)) (c .before .before .decode-placed .ensures)
 
 pub decode-at-spec : {M : Type 1} → statement M
 decode-at-spec = tie.close (tie.spec table-bytes-requires decode-placed-requires same-length returns)

@@ -14,9 +14,9 @@ table-short-requires c κs = search needs
 
 returns : tie.Need-returns
 unfolding trackTextIn
-returns c = let a = c .before .before .before .before .args in
+returns c = let a = c .before .before .before .before .before .args in
     let short = sym (λ i. c .before .table-short .ensures i || ltb (a .room) 255) ∙ c .if1 .taken in
-    asked-refused _ (now (a .page)) 2 (simp short)
+    asked-refused _ (now (a .mapping)) (now (a .page)) 2 (simp short)
 
 no-such-area-requires : tie.Need-no-such-area-requires
 no-such-area-requires c κs = search needs
@@ -26,10 +26,10 @@ no-such-track-requires c κs = search needs
 
 returns-2 : tie.Need-returns-2
 unfolding trackTextIn
-returns-2 c = let a = c .before .before .before .before .before .before .before .args in let k = c .before .before .before in
+returns-2 c = let a = c .before .before .before .before .before .before .before .before .args in let k = c .before .before .before in
     let short = sym (λ i. k .before .table-short .ensures i || ltb (a .room) 255) ∙ k .if1 .left in
     let none = sym (λ i. c .before .before .no-such-area .ensures i || c .before .no-such-track .ensures i || leb 14 (a .item)) ∙ c .if2 .taken in
-    asked-refused _ (now (a .page)) 8 (simp (short, none))
+    asked-refused _ (now (a .mapping)) (now (a .page)) 8 (simp (short, none))
 
 decode-at-requires : tie.Need-decode-at-requires
 decode-at-requires c κs = search needs
@@ -40,10 +40,10 @@ same-length c = search needs
 returns-3 : tie.Need-returns-3
 unfolding trackTextIn textOf
 returns-3 c = let k = c .before .before .before .before in let l = k .before .before .before in
-    let a = l .before .before .before .before .args in
+    let a = l .before .before .before .before .before .args in
     let short = sym (λ i. l .before .table-short .ensures i || ltb (a .room) 255) ∙ l .if1 .left in
     let none = sym (λ i. k .before .before .no-such-area .ensures i || k .before .no-such-track .ensures i || leb 14 (a .item)) ∙ k .if2 .left in
-    asked-found _ (now (a .page)) _ _ _ _ _ (simp (short, none)) refl (c .before .before .decode-at .ensures .0) (c .before .before .decode-at .ensures .1)
+    asked-found _ (now (a .mapping)) (now (a .page)) _ _ _ _ _ (simp (short, none)) refl (c .before .before .decode-at .ensures .0) (c .before .before .decode-at .ensures .1)
 
 pub decode-of-track-spec : {M : Type 1} → statement M
 decode-of-track-spec =
