@@ -26,9 +26,10 @@ use Rattle.disc.specs.TextDecode.{workShort, lentShort, discTextSector, 
 use Rattle.disc.specs.declared.master.MasterToc.{MasterToc}
 
 -- what a contract says of a text's answer and page holds of an equal text
-pub asked-same : (text same : Text) (old : List ℕ) (answer : DecodeAnswer) (page : List ℕ) → text ≡ same → answer ≡ textAnswer text (length old)
-    → page ≡ textPage text old → (answer ≡ textAnswer same (length old)) × (page ≡ textPage same old)
-asked-same text same old answer page e a p = (a ∙ ap (λ (t : Text). textAnswer t (length old)) e, p ∙ ap (λ (t : Text). textPage t old) e)
+pub asked-same : (text same : Text) (words old : List ℕ) (answer : DecodeAnswer) (page : List ℕ) → text ≡ same → answer ≡ textAnswer text words (length old)
+    → page ≡ textPage text words old → (answer ≡ textAnswer same words (length old)) × (page ≡ textPage same words old)
+asked-same text same words old answer page e a p =
+    (a ∙ ap (λ (t : Text). textAnswer t words (length old)) e, p ∙ ap (λ (t : Text). textPage t words old) e)
 
 -- ---- a text of the disc placed at or past the end of sector 1 is absent
 pub disc-past-absent : (work : List ℕ) (place : ℕ) → sectorSize ≤ place → discTextAt work place ≡ []

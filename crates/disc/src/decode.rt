@@ -31,9 +31,15 @@ fn disc_text_sector<'a>(work: &'a [u8]) -> &'a [u8]
 }
 
 // Decodes a text of the disc, by its item index, to the start of a page.
-pub fn decode_disc_text(work: &[u8], master: MasterToc, item: u32, page: &mut [u8]) -> DecodeAnswer
-    ensures answer { λ r. ⌜ r ≡ textAnswer (discTextIn (now (work .entry)) master item) (length (now (page .entry))) ⌝ }
-    ensures filled { λ r. ⌜ now (page .exit) ≡ textPage (discTextIn (now (work .entry)) master item) (now (page .entry)) ⌝ }
+pub fn decode_disc_text(
+    work: &[u8],
+    master: MasterToc,
+    item: u32,
+    mapping: &[u32],
+    page: &mut [u8],
+) -> DecodeAnswer
+    ensures answer { λ r. ⌜ r ≡ textAnswer (discTextIn (now (work .entry)) master item) (now (mapping .entry)) (length (now (page .entry))) ⌝ }
+    ensures filled { λ r. ⌜ now (page .exit) ≡ textPage (discTextIn (now (work .entry)) master item) (now (mapping .entry)) (now (page .entry)) ⌝ }
 {
     if work.len() < WORK_BYTES {
         return DecodeAnswer {
@@ -50,13 +56,19 @@ pub fn decode_disc_text(work: &[u8], master: MasterToc, item: u32, page: &mut [u
     let places = master.text;
     let text = places[item as usize];
     let sector = disc_text_sector(work);
-    decode_placed(sector, text.place, master.text_charset, page)
+    decode_placed(sector, text.place, master.text_charset, mapping, page)
 }
 
 // Decodes a text of an area, by its item index, to the start of a page.
-pub fn decode_disc_area_text(work: &[u8], area: Area, item: u32, page: &mut [u8]) -> DecodeAnswer
-    ensures answer { λ r. ⌜ r ≡ textAnswer (areaTextOn (now (work .entry)) area item) (length (now (page .entry))) ⌝ }
-    ensures filled { λ r. ⌜ now (page .exit) ≡ textPage (areaTextOn (now (work .entry)) area item) (now (page .entry)) ⌝ }
+pub fn decode_disc_area_text(
+    work: &[u8],
+    area: Area,
+    item: u32,
+    mapping: &[u32],
+    page: &mut [u8],
+) -> DecodeAnswer
+    ensures answer { λ r. ⌜ r ≡ textAnswer (areaTextOn (now (work .entry)) area item) (now (mapping .entry)) (length (now (page .entry))) ⌝ }
+    ensures filled { λ r. ⌜ now (page .exit) ≡ textPage (areaTextOn (now (work .entry)) area item) (now (mapping .entry)) (now (page .entry)) ⌝ }
 {
     if work.len() < WORK_BYTES {
         return DecodeAnswer {
@@ -65,7 +77,7 @@ pub fn decode_disc_area_text(work: &[u8], area: Area, item: u32, page: &mut [u8]
         };
     }
     let origin = area.origin;
-    decode_area_text(region_of(work, origin.slot), area, item, page)
+    decode_area_text(region_of(work, origin.slot), area, item, mapping, page)
 }
 
 // The place in the list of an area's track of a number; for 0 that of its first.
@@ -88,10 +100,12 @@ fn decode_of_disc_track(
     place: u32,
     number: u32,
     item: u32,
+    mapping: &[u32],
     page: &mut [u8],
 ) -> DecodeAnswer
-    ensures answer { λ r. ⌜ r ≡ textAnswer (trackTextOn (now (work .entry)) area room place number item) (length (now (page .entry))) ⌝ }
-    ensures filled { λ r. ⌜ now (page .exit) ≡ textPage (trackTextOn (now (work .entry)) area room place number item) (now (page .entry)) ⌝ }
+    ensures answer { λ r. ⌜ r ≡ textAnswer (trackTextOn (now (work .entry)) area room place number item) (now (mapping .entry)) (length (now (page .entry))) ⌝ }
+    ensures filled { λ r. ⌜
+        now (page .exit) ≡ textPage (trackTextOn (now (work .entry)) area room place number item) (now (mapping .entry)) (now (page .entry)) ⌝ }
 {
     if (work.len() < WORK_BYTES) | (room < TRACK_RECORDS) {
         return DecodeAnswer {
@@ -101,7 +115,7 @@ fn decode_of_disc_track(
     }
     let origin = area.origin;
     let table = region_of(work, origin.slot);
-    decode_of_track(table, area, MAX_TRACKS, place, number, item, page)
+    decode_of_track(table, area, MAX_TRACKS, place, number, item, mapping, page)
 }
 
 // Decodes a text of a track, by its number and item index, to the start of a page.
@@ -111,10 +125,11 @@ pub fn decode_disc_track_text(
     tracks: &[Track],
     number: u32,
     item: u32,
+    mapping: &[u32],
     page: &mut [u8],
 ) -> DecodeAnswer
-    ensures { λ r. ⌜ (r ≡ textAnswer (trackTextAt (now (work .entry)) area (now (tracks .entry)) number item) (length (now (page .entry)))) × (now (page .exit) ≡ textPage (trackTextAt (now (work .entry)) area (now (tracks .entry)) number item) (now (page .entry))) ⌝ }
+    ensures { λ r. ⌜ (r ≡ textAnswer (trackTextAt (now (work .entry)) area (now (tracks .entry)) number item) (now (mapping .entry)) (length (now (page .entry)))) × (now (page .exit) ≡ textPage (trackTextAt (now (work .entry)) area (now (tracks .entry)) number item) (now (mapping .entry)) (now (page .entry))) ⌝ }
 {
     let place = place_at(tracks, track_place(area, number), item);
-    decode_of_disc_track(work, area, tracks.len(), place, number, item, page)
+    decode_of_disc_track(work, area, tracks.len(), place, number, item, mapping, page)
 }

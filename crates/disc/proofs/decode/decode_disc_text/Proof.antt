@@ -15,13 +15,13 @@ use Rattle.disc.proofs.decode.decode_disc_text.Tie as tie
 
 returns : tie.Need-returns
 unfolding workShort
-returns c = let a = c .before .before .before .args in
-    asked-refused _ (now (a .page)) 2 (disc-text-short (now (a .work)) (a .master) (a .item) (lt-ltb (length (now (a .work))) 544768 (c .if1 .taken)))
+returns c = let a = c .before .before .before .before .args in
+    asked-refused _ (now (a .mapping)) (now (a .page)) 2 (disc-text-short (now (a .work)) (a .master) (a .item) (lt-ltb (length (now (a .work))) 544768 (c .if1 .taken)))
 
 returns-2 : tie.Need-returns-2
 unfolding workShort
-returns-2 c = let a = c .before .before .before .before .args in let enough = le-ltb (length (now (a .work))) 544768 (c .before .if1 .left) in
-    asked-refused _ (now (a .page)) 8 (disc-text-none (now (a .work)) (a .master) (a .item) enough (le-leb 16 (a .item) (c .if2 .taken)))
+returns-2 c = let a = c .before .before .before .before .before .args in let enough = le-ltb (length (now (a .work))) 544768 (c .before .if1 .left) in
+    asked-refused _ (now (a .mapping)) (now (a .page)) 8 (disc-text-none (now (a .work)) (a .master) (a .item) enough (le-leb 16 (a .item) (c .if2 .taken)))
 
 mul-text : tie.Need-mul-text
 mul-text c = search needs
@@ -40,10 +40,10 @@ same-length c = search needs
 
 returns-3 : tie.Need-returns-3
 unfolding workShort discPlace discTextAt
-returns-3 c = let k = c .before .before .before .before .before .before .before in let a = k .before .before .before .before .args in
+returns-3 c = let k = c .before .before .before .before .before .before .before in let a = k .before .before .before .before .before .args in
     let enough = le-ltb (length (now (a .work))) 544768 (k .before .if1 .left) in
     let same = ap (λ (t : List ℕ). placedString t (discPlace (a .master) (a .item))) (c .before .before .before .before .disc-text-sector .ensures) in
-    asked-found _ (now (a .page)) _ _ _ _ _ (disc-text-found (now (a .work)) (a .master) (a .item) enough (lt-leb 16 (a .item) (k .if2 .left)))
+    asked-found _ (now (a .mapping)) (now (a .page)) _ _ _ _ _ (disc-text-found (now (a .work)) (a .master) (a .item) enough (lt-leb 16 (a .item) (k .if2 .left)))
     same (c .before .before .decode-placed .ensures .0) (c .before .before .decode-placed .ensures .1)
 
 pub decode-disc-text-spec : {M : Type 1} → statement M

@@ -13,8 +13,8 @@ use Rattle.disc.proofs.decode.decode_of_disc_track.Tie as tie
 
 returns : tie.Need-returns
 unfolding workShort lentShort
-returns c = let a = c .before .before .before .args in
-    asked-refused _ (now (a .page)) 2 (track-on-short (now (a .work)) (a .area) (a .room) (a .place) (a .number) (a .item) (c .if1 .taken))
+returns c = let a = c .before .before .before .before .args in
+    asked-refused _ (now (a .mapping)) (now (a .page)) 2 (track-on-short (now (a .work)) (a .area) (a .room) (a .place) (a .number) (a .item) (c .if1 .taken))
 
 region-of-requires : tie.Need-region-of-requires
 region-of-requires c κs = search needs
@@ -27,10 +27,10 @@ same-length c = search needs
 
 returns-2 : tie.Need-returns-2
 unfolding workShort lentShort
-returns-2 c = let k = c .before .before .before .before in let a = k .before .before .before .before .before .args in
+returns-2 c = let k = c .before .before .before .before in let a = k .before .before .before .before .before .before .args in
     let same = ap (λ (region : List ℕ). trackTextIn region (a .area) 255 (a .place) (a .number) (a .item)) (k .region-of .ensures)
     ∙ sym (track-on-region (now (a .work)) (a .area) (a .room) (a .place) (a .number) (a .item) (k .before .before .if1 .left)) in
-    asked-same _ _ (now (a .page)) _ _ same (c .before .before .decode-of-track .ensures .0) (c .before .before .decode-of-track .ensures .1)
+    asked-same _ _ (now (a .mapping)) (now (a .page)) _ _ same (c .before .before .decode-of-track .ensures .0) (c .before .before .decode-of-track .ensures .1)
 
 pub decode-of-disc-track-spec : {M : Type 1} → statement M
 decode-of-disc-track-spec =
