@@ -53,9 +53,10 @@ pub fn decode_track_text_by_value(
     tracks: [Track; TRACK_RECORDS],
     number: u32,
     item: u32,
+    mapping: &[u32],
     page: &mut [u8],
 ) -> DecodeAnswer
-    ensures { λ r. ⌜ (r ≡ textAnswer (trackTextAt (now (work .entry)) area tracks number item) (length (now (page .entry)))) × (now (page .exit) ≡ textPage (trackTextAt (now (work .entry)) area tracks number item) (now (page .entry))) ⌝ }
+    ensures { λ r. ⌜ (r ≡ textAnswer (trackTextAt (now (work .entry)) area tracks number item) (now (mapping .entry)) (length (now (page .entry)))) × (now (page .exit) ≡ textPage (trackTextAt (now (work .entry)) area tracks number item) (now (mapping .entry)) (now (page .entry))) ⌝ }
 {
-    decode_disc_track_text(work, area, &tracks, number, item, page)
+    decode_disc_track_text(work, area, &tracks, number, item, mapping, page)
 }
