@@ -214,11 +214,16 @@ pub extern "C" fn scarletbook_charset(code: u8) -> u8
 
 // Decodes a string's bytes, of the set that a code names, to the start of a page. A refusal changes nothing.
 #[no_mangle]
-pub extern "C" fn scarletbook_decode(bytes: &[u8], code: u8, page: &mut [u8]) -> DecodeAnswer
-    ensures answer { λ r. ⌜ r ≡ decodeOf (now (bytes .entry)) code (length (now (page .entry))) ⌝ }
-    ensures filled { λ r. ⌜ now (page .exit) ≡ decodeInto (now (bytes .entry)) code (now (page .entry)) ⌝ }
+pub extern "C" fn scarletbook_decode(
+    bytes: &[u8],
+    code: u8,
+    mapping: &[u32],
+    page: &mut [u8],
+) -> DecodeAnswer
+    ensures answer { λ r. ⌜ r ≡ decodeOf (now (bytes .entry)) code (now (mapping .entry)) (length (now (page .entry))) ⌝ }
+    ensures filled { λ r. ⌜ now (page .exit) ≡ decodeInto (now (bytes .entry)) code (now (mapping .entry)) (now (page .entry)) ⌝ }
 {
-    text::decode::decode(bytes, code, page)
+    text::decode::decode(bytes, code, mapping, page)
 }
 
 // The text of a field as it is stored; of a longer field than 16 bytes the first 16 count.
@@ -373,12 +378,13 @@ pub extern "C" fn scarletbook_decode_area_text(
     table: &[u8],
     area: Area,
     item: u32,
+    mapping: &[u32],
     page: &mut [u8],
 ) -> DecodeAnswer
-    ensures answer { λ r. ⌜ r ≡ textAnswer (areaTextIn (now (table .entry)) area item) (length (now (page .entry))) ⌝ }
-    ensures filled { λ r. ⌜ now (page .exit) ≡ textPage (areaTextIn (now (table .entry)) area item) (now (page .entry)) ⌝ }
+    ensures answer { λ r. ⌜ r ≡ textAnswer (areaTextIn (now (table .entry)) area item) (now (mapping .entry)) (length (now (page .entry))) ⌝ }
+    ensures filled { λ r. ⌜ now (page .exit) ≡ textPage (areaTextIn (now (table .entry)) area item) (now (mapping .entry)) (now (page .entry)) ⌝ }
 {
-    area::decode::decode_area_text(table, area, item, page)
+    area::decode::decode_area_text(table, area, item, mapping, page)
 }
 
 // Decodes a text of a track, by its number and item index, to the start of a page. A refusal changes nothing.
@@ -389,11 +395,12 @@ pub extern "C" fn scarletbook_decode_track_text(
     tracks: &[Track],
     number: u32,
     item: u32,
+    mapping: &[u32],
     page: &mut [u8],
 ) -> DecodeAnswer
-    ensures { λ r. ⌜ (r ≡ textAnswer (trackTextBy (now (table .entry)) area (now (tracks .entry)) number item) (length (now (page .entry)))) × (now (page .exit) ≡ textPage (trackTextBy (now (table .entry)) area (now (tracks .entry)) number item) (now (page .entry))) ⌝ }
+    ensures { λ r. ⌜ (r ≡ textAnswer (trackTextBy (now (table .entry)) area (now (tracks .entry)) number item) (now (mapping .entry)) (length (now (page .entry)))) × (now (page .exit) ≡ textPage (trackTextBy (now (table .entry)) area (now (tracks .entry)) number item) (now (mapping .entry)) (now (page .entry))) ⌝ }
 {
-    area::decode::decode_track_text(table, area, tracks, number, item, page)
+    area::decode::decode_track_text(table, area, tracks, number, item, mapping, page)
 }
 
 // Decodes a text of the disc, by its item index, to the start of a page.
@@ -402,12 +409,13 @@ pub extern "C" fn scarletbook_decode_disc_text(
     work: &[u8],
     master: MasterToc,
     item: u32,
+    mapping: &[u32],
     page: &mut [u8],
 ) -> DecodeAnswer
-    ensures answer { λ r. ⌜ r ≡ textAnswer (discTextIn (now (work .entry)) master item) (length (now (page .entry))) ⌝ }
-    ensures filled { λ r. ⌜ now (page .exit) ≡ textPage (discTextIn (now (work .entry)) master item) (now (page .entry)) ⌝ }
+    ensures answer { λ r. ⌜ r ≡ textAnswer (discTextIn (now (work .entry)) master item) (now (mapping .entry)) (length (now (page .entry))) ⌝ }
+    ensures filled { λ r. ⌜ now (page .exit) ≡ textPage (discTextIn (now (work .entry)) master item) (now (mapping .entry)) (now (page .entry)) ⌝ }
 {
-    disc::decode::decode_disc_text(work, master, item, page)
+    disc::decode::decode_disc_text(work, master, item, mapping, page)
 }
 
 // Decodes a text of an area after a disc reading.
@@ -416,12 +424,13 @@ pub extern "C" fn scarletbook_decode_disc_area_text(
     work: &[u8],
     area: Area,
     item: u32,
+    mapping: &[u32],
     page: &mut [u8],
 ) -> DecodeAnswer
-    ensures answer { λ r. ⌜ r ≡ textAnswer (areaTextOn (now (work .entry)) area item) (length (now (page .entry))) ⌝ }
-    ensures filled { λ r. ⌜ now (page .exit) ≡ textPage (areaTextOn (now (work .entry)) area item) (now (page .entry)) ⌝ }
+    ensures answer { λ r. ⌜ r ≡ textAnswer (areaTextOn (now (work .entry)) area item) (now (mapping .entry)) (length (now (page .entry))) ⌝ }
+    ensures filled { λ r. ⌜ now (page .exit) ≡ textPage (areaTextOn (now (work .entry)) area item) (now (mapping .entry)) (now (page .entry)) ⌝ }
 {
-    disc::decode::decode_disc_area_text(work, area, item, page)
+    disc::decode::decode_disc_area_text(work, area, item, mapping, page)
 }
 
 // Decodes a text of a track after a disc reading.
@@ -432,9 +441,10 @@ pub extern "C" fn scarletbook_decode_disc_track_text(
     tracks: &[Track],
     number: u32,
     item: u32,
+    mapping: &[u32],
     page: &mut [u8],
 ) -> DecodeAnswer
-    ensures { λ r. ⌜ (r ≡ textAnswer (trackTextAt (now (work .entry)) area (now (tracks .entry)) number item) (length (now (page .entry)))) × (now (page .exit) ≡ textPage (trackTextAt (now (work .entry)) area (now (tracks .entry)) number item) (now (page .entry))) ⌝ }
+    ensures { λ r. ⌜ (r ≡ textAnswer (trackTextAt (now (work .entry)) area (now (tracks .entry)) number item) (now (mapping .entry)) (length (now (page .entry)))) × (now (page .exit) ≡ textPage (trackTextAt (now (work .entry)) area (now (tracks .entry)) number item) (now (mapping .entry)) (now (page .entry))) ⌝ }
 {
-    disc::decode::decode_disc_track_text(work, area, tracks, number, item, page)
+    disc::decode::decode_disc_track_text(work, area, tracks, number, item, mapping, page)
 }

@@ -1,6 +1,6 @@
 -- `scarletbook_decode_disc_track_text` meets its contract: it hands everything on to `decode_disc_track_text`, whose contract is the same. Assumes nothing.
 use mir.Syntax.{w32}
-use Rattle.walks.specs.Forward.{refl, List, [], _∷_, URA, Heap, Atoms, Given, Lfts, givenOf, lawful, u8, Handed, shared, exclusive, number, struct, forwards}
+use Rattle.walks.specs.Forward.{refl, List, [], _∷_, URA, Heap, Atoms, Given, Lfts, givenOf, lawful, u8, u32, Handed, shared, exclusive, number, struct, forwards}
 use Rattle.area.proofs.area.Area as Ar
 use Rattle.area.proofs.area.Area.Laws as Ar′
 use Rattle.area.proofs.track.Track as T
@@ -13,9 +13,9 @@ use Rattle.scarletbook.proofs.scarletbook_decode_disc_track_text as thi
 use Rattle.scarletbook.proofs.scarletbook_decode_disc_track_text.Statement as stated
 use Rattle.scarletbook.proofs.scarletbook_decode_disc_track_text.Code as code
 
--- work, area, tracks, number, item and page
-abbrev handed : {M : Type 1} (𝓤 : URA M) (H : Heap 𝓤) (A : Atoms 𝓤) → Given 𝓤 H A → Lfts 3 → List (Handed 𝓤 H A)
-handed 𝓤 H A W κs = shared 0 (κs .0) u8 ∷ struct W Ar.the-type Ar′.the-laws ∷ shared 1 (κs .1 .0) T.the-row ∷ number W w32 ∷ number W w32 ∷ exclusive 2 (κs .1 .1 .0) u8 ∷ []
+-- work, area, tracks, number, item, mapping and page
+abbrev handed : {M : Type 1} (𝓤 : URA M) (H : Heap 𝓤) (A : Atoms 𝓤) → Given 𝓤 H A → Lfts 4 → List (Handed 𝓤 H A)
+handed 𝓤 H A W κs = shared 0 (κs .0) u8 ∷ struct W Ar.the-type Ar′.the-laws ∷ shared 1 (κs .1 .0) T.the-row ∷ number W w32 ∷ number W w32 ∷ shared 2 (κs .1 .1 .0) u32 ∷ exclusive 3 (κs .1 .1 .1 .0) u8 ∷ []
 
 pub scarletbook-decode-disc-track-text-spec : {M : Type 1} → stated.statement M
 unfolding code.routine
