@@ -65,10 +65,10 @@ unfolding passes Holds decodesTo
 holds (frameCard t number) e = let n = eqb-true (frameNumber t .0) (number .0) e in λ i. record { 0 = n i }
 holds (capCard start duration times) e = same-times (capOf start duration cardPlaytime) times e
 holds (byteCard b text) e =
-    let all = both (eqb (decodeOf (b ∷ []) latin1 (length text) .len) (length text)) (same (decodeInto (b ∷ []) latin1 (replicate (length text) 0)) text) e in
+    let all = both (eqb (decodeOf (b ∷ []) latin1 [] (length text) .len) (length text)) (same (decodeInto (b ∷ []) latin1 [] (replicate (length text) 0)) text) e in
     record {
-      its-length = eqb-true (decodeOf (b ∷ []) latin1 (length text) .len) (length text) (all .0);
-      its-bytes = same-eq (decodeInto (b ∷ []) latin1 (replicate (length text) 0)) text (all .1);
+      its-length = eqb-true (decodeOf (b ∷ []) latin1 [] (length text) .len) (length text) (all .0);
+      its-bytes = same-eq (decodeInto (b ∷ []) latin1 [] (replicate (length text) 0)) text (all .1);
     }
 holds (charsetCard code charset) e = eqb-true (charsetOf code) charset e
 holds (headerCard bytes sound) e =

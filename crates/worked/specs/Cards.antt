@@ -80,10 +80,10 @@ unfoldable pub Judged : Bool → List ℕ → Type 0
 Judged true bytes = Sound bytes
 Judged false bytes = ¬ Sound bytes
 
--- decoding fills a page of as many bytes as a text has, and with the text
+-- decoding, lent no mapping, fills a page of as many bytes as a text has, and with the text
 pub record Decodes (bytes : List ℕ) (code : ℕ) (text : List ℕ) : Type 0 where
-  pub its-length : decodeOf bytes code (length text) .len ≡ length text
-  pub its-bytes : decodeInto bytes code (replicate (length text) 0) ≡ text
+  pub its-length : decodeOf bytes code [] (length text) .len ≡ length text
+  pub its-bytes : decodeInto bytes code [] (replicate (length text) 0) ≡ text
 
 unfoldable pub Holds : Card → Type 0
 Holds (frameCard t number) = frameNumber t ≡ number
@@ -112,7 +112,7 @@ sameTimes a b =
 
 unfoldable pub decodesTo : List ℕ → ℕ → List ℕ → Bool
 decodesTo bytes code text =
-    eqb (decodeOf bytes code (length text) .len) (length text) && same (decodeInto bytes code (replicate (length text) 0)) text
+    eqb (decodeOf bytes code [] (length text) .len) (length text) && same (decodeInto bytes code [] (replicate (length text) 0)) text
 
 unfoldable pub areBytes : List ℕ → Bool
 areBytes [] = true
