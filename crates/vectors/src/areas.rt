@@ -1,4 +1,5 @@
 // Cards of the areas: frame numbers, the play time, and the largest table, written one to a line.
+use crate::NO_MAPPING;
 use area::timecode::Frame;
 use area::timecode::Timecode;
 use libc::STDOUT_FILENO;
@@ -103,7 +104,7 @@ fn text_line(word: &[u8], number: u32, refusal: u8) {
 fn slot_line(table: &[u8], slot: u8) {
     let head = area::table::table_head(table, slot, Lsn(0), 3);
     let mut page = [0u8; 8];
-    let answer = area::decode::decode_area_text(table, head.area, 0, &mut page);
+    let answer = area::decode::decode_area_text(table, head.area, 0, &NO_MAPPING, &mut page);
     text_line(b"slot ", slot as u32, answer.refusal);
 }
 
@@ -113,7 +114,16 @@ fn track_line(table: &[u8], number: u32) {
     let mut area = head.area;
     area.track_count = 256;
     let mut page = [0u8; 8];
-    let answer = area::decode::decode_of_track(table, area, 255, 0, number, 0, &mut page);
+    let answer = area::decode::decode_of_track(
+        table,
+        area,
+        255,
+        0,
+        number,
+        0,
+        &NO_MAPPING,
+        &mut page,
+    );
     text_line(b"track ", number, answer.refusal);
 }
 

@@ -1,4 +1,5 @@
 // Cards of the texts: sets, decoding, fixed fields, languages and stored strings, written one to a line.
+use crate::NO_MAPPING;
 use libc::STDOUT_FILENO;
 
 // A line of the set of a code.
@@ -15,7 +16,7 @@ fn print_four(bytes: &[u8], at: usize) {
 // A line of what decoding into a page of eight full stops answers: the refusal, the length, and the page.
 fn decode_line(bytes: &[u8], code: u8) {
     let mut page = [0x2Eu8; 8];
-    let answer = text::decode::decode(bytes, code, &mut page);
+    let answer = text::decode::decode(bytes, code, &NO_MAPPING, &mut page);
     io::print_decimal(STDOUT_FILENO, answer.refusal as u64);
     io::write_all(STDOUT_FILENO, b" ");
     io::print_decimal(STDOUT_FILENO, answer.len as u64);
