@@ -22,6 +22,9 @@ use text::decode::DecodeAnswer;
 // A page that has room for every text: 4,096 characters of at most two bytes.
 const TEXT_PAGE: usize = 8192;
 
+// A mapping of no words.
+const NO_MAPPING: [u32; 0] = [];
+
 // Writes the line of a text that is there: its item index, the refusal, the length and the digest.
 fn put_text(item: u32, answer: DecodeAnswer, page: &[u8]) {
     if (answer.refusal == 0) & (answer.len == 0) {
@@ -37,19 +40,27 @@ fn put_text(item: u32, answer: DecodeAnswer, page: &[u8]) {
 
 fn put_disc_text(work: &[u8], master: MasterToc, item: u32) {
     let mut page = [0u8; TEXT_PAGE];
-    let answer = decode_disc_text(work, master, item, &mut page);
+    let answer = decode_disc_text(work, master, item, &NO_MAPPING, &mut page);
     put_text(item, answer, &page);
 }
 
 fn put_area_text(work: &[u8], area: Area, item: u32) {
     let mut page = [0u8; TEXT_PAGE];
-    let answer = decode_disc_area_text(work, area, item, &mut page);
+    let answer = decode_disc_area_text(work, area, item, &NO_MAPPING, &mut page);
     put_text(item, answer, &page);
 }
 
 fn put_track_text(work: &[u8], area: Area, tracks: [Track; TRACK_RECORDS], number: u32, item: u32) {
     let mut page = [0u8; TEXT_PAGE];
-    let answer = decode_track_text_by_value(work, area, tracks, number, item, &mut page);
+    let answer = decode_track_text_by_value(
+        work,
+        area,
+        tracks,
+        number,
+        item,
+        &NO_MAPPING,
+        &mut page,
+    );
     put_text(item, answer, &page);
 }
 
