@@ -25,14 +25,14 @@ latin1Points bytes = bytes
 -- "Refusal 9 now comes only for a mapping of no words. Checks: 12, only for a present text of set 3 to 6, a mapping with a count missing ..; after 9,
 -- before 10." (02, item 1)
 unfoldable pub mappedOf : List ℕ → ℕ → List ℕ → Decoded
-mappedOf bytes set words =
+mappedOf words set bytes =
     cond (eqb (length words) 0) (refused setNotHeld) (cond (isMapping words) (gives (mappedPoints words set bytes)) (refused badMapping))
 
 -- "An absent text answers length 0 in every set and never meets 9.": nor 12. "3 to 6 are the four tables ..", by the lent words; "all others Latin-1",
 -- without a look at them
 unfoldable pub pointsOf : List ℕ → ℕ → List ℕ → Decoded
 pointsOf bytes code words =
-    cond (present bytes) (cond (isMapped (setOf code)) (mappedOf bytes (setOf code) words) (gives (latin1Points bytes))) (gives [])
+    cond (present bytes) (cond (isMapped (setOf code)) (mappedOf words (setOf code) bytes) (gives (latin1Points bytes))) (gives [])
 
 -- the answer of a refusal, and of a text of so many bytes
 unfoldable pub refusing : ℕ → DecodeAnswer

@@ -14,9 +14,9 @@ use Rattle.text.specs.String.{present}
 use Rattle.text.specs.Charset.{setOf, isMapped}
 use Rattle.text.specs.Mapping.{allPoints, isMapping}
 use Rattle.text.specs.Mapped.{mappedPoints}
-use Rattle.text.specs.MappedLaws.{bytes-sound, text-most, mapped-sound}
+use Rattle.text.specs.MappedLaws.{bytes-sound, text-most, text-some, mapped-sound}
 use Rattle.text.specs.Utf8.{encoded}
-use Rattle.text.specs.Utf8Laws.{encoded-none, latin1-length}
+use Rattle.text.specs.Utf8Laws.{encoded-none, encoded-length, latin1-length}
 use Rattle.text.specs.Decode.{Decoded, refused, gives, latin1Points, mappedOf, pointsOf, refusing, giving, answerIn, pageWith, decodeOf, decodeInto}
 use Rattle.text.specs.declared.decode.DecodeAnswer.{DecodeAnswer}
 
@@ -56,18 +56,23 @@ module _ (points : List ℕ) where
   unfolding pageWith
   page-fits page h = simp (le-leb (length (encoded points)) (length page) h)
 
+-- a refusal before the page is looked at, as one more than its number; 0 if there is none
+unfoldable refusal-number : Decoded → ℕ
+refusal-number (refused number) = suc number
+refusal-number (gives points) = zero
+
 -- a present text of set 3 to 6: by whether words are lent, and are a mapping
-module _ (bytes : List ℕ) (set : ℕ) (words : List ℕ) where
-  pub mapped-none : length words ≡ 0 → mappedOf bytes set words ≡ refused setNotHeld
+module _ (words : List ℕ) (set : ℕ) (bytes : List ℕ) where
+  pub mapped-none : length words ≡ 0 → mappedOf words set bytes ≡ refused setNotHeld
   unfolding mappedOf
   mapped-none none = simp (eq-eqb (length words) 0 none)
 
   module _ (some : length words ≡ 0 → ⊥) where
-    pub mapped-bad : isMapping words ≡ false → mappedOf bytes set words ≡ refused badMapping
+    pub mapped-bad : isMapping words ≡ false → mappedOf words set bytes ≡ refused badMapping
     unfolding mappedOf
     mapped-bad e = simp (ne-eqb (length words) 0 some, e)
 
-    pub mapped-good : isMapping words ≡ true → mappedOf bytes set words ≡ gives (mappedPoints words set bytes)
+    pub mapped-good : isMapping words ≡ true → mappedOf words set bytes ≡ gives (mappedPoints words set bytes)
     unfolding mappedOf
     mapped-good e = simp (ne-eqb (length words) 0 some, e)
 
@@ -78,7 +83,7 @@ module _ (bytes : List ℕ) (code : ℕ) (words : List ℕ) where
   points-absent none = simp (le-ltb 0 (length bytes) (omega arith))
 
   -- a present one of set 3 to 6 goes by the mapping
-  pub points-mapped : 0 < length bytes → isMapped (setOf code) ≡ true → pointsOf bytes code words ≡ mappedOf bytes (setOf code) words
+  pub points-mapped : 0 < length bytes → isMapped (setOf code) ≡ true → pointsOf bytes code words ≡ mappedOf words (setOf code) bytes
   unfolding pointsOf present
   points-mapped is-present mapped = simp (lt-ltb 0 (length bytes) is-present, mapped)
 
@@ -111,7 +116,7 @@ module _ (bytes : List ℕ) (code : ℕ) (words : List ℕ) where
     unfolding pageWith
     into-refused page = into-by e page
 
-  -- "An absent text answers length 0 in every set and never meets 9.": and never 10
+  -- "An absent text answers length 0 in every set and never meets 9.": nor 12, nor 10
   pub decode-absent : length bytes ≡ 0 → (size : ℕ) → decodeOf bytes code words size ≡ giving 0
   decode-absent none size =
       let n = ap length encoded-none in
@@ -184,13 +189,13 @@ module _ (bytes : List ℕ) (code : ℕ) (words : List ℕ) where
   source = of-bytes (length bytes) refl
     where
       of-mapping : 0 < length bytes → isMapped (setOf code) ≡ true → (length words ≡ 0 → ⊥) → (t : Bool) → isMapping words ≡ t → Source
-      of-mapping is-present m some true f = by-mapping f (points-mapped is-present m ∙ mapped-good bytes (setOf code) words some f)
-      of-mapping is-present m some false f = no-mapping is-present m some f (points-mapped is-present m ∙ mapped-bad bytes (setOf code) words some f)
+      of-mapping is-present m some true f = by-mapping f (points-mapped is-present m ∙ mapped-good words (setOf code) bytes some f)
+      of-mapping is-present m some false f = no-mapping is-present m some f (points-mapped is-present m ∙ mapped-bad words (setOf code) bytes some f)
 
       of-words : 0 < length bytes → isMapped (setOf code) ≡ true → (t : Bool) → eqb (length words) 0 ≡ t → Source
       of-words is-present m true f =
           let none = eqb-true (length words) 0 f in
-          no-words is-present m none (points-mapped is-present m ∙ mapped-none bytes (setOf code) words none)
+          no-words is-present m none (points-mapped is-present m ∙ mapped-none words (setOf code) bytes none)
       of-words is-present m false f = of-mapping is-present m (eqb-false (length words) 0 f) (isMapping words) refl
 
       of-set : 0 < length bytes → (t : Bool) → isMapped (setOf code) ≡ t → Source
@@ -201,22 +206,17 @@ module _ (bytes : List ℕ) (code : ℕ) (words : List ℕ) where
       of-bytes zero z = absent z (points-absent z)
       of-bytes (suc n) z = of-set (omega arith) (isMapped (setOf code)) refl
 
-  -- a refusal before the page is looked at, as one more than its number; 0 if there is none
-  unfoldable refusal-of : Decoded → ℕ
-  refusal-of (refused number) = suc number
-  refusal-of (gives points) = zero
-
   -- it is 9 or 12
   refused-not-ten : (number : ℕ) → pointsOf bytes code words ≡ refused number → number ≡ shortPage → ⊥
-  unfolding refusal-of
+  unfolding refusal-number
   refused-not-ten number e ten = go source
     where
       go : Source → ⊥
-      go (absent none is) = omega (arith, ap refusal-of (sym e ∙ is))
-      go (latin1 m is) = omega (arith, ap refusal-of (sym e ∙ is))
-      go (no-words is-present m none is) = omega (arith, ap refusal-of (sym e ∙ is))
-      go (no-mapping is-present m some bad is) = omega (arith, ap refusal-of (sym e ∙ is))
-      go (by-mapping good is) = omega (arith, ap refusal-of (sym e ∙ is))
+      go (absent none is) = omega (arith, ap refusal-number (sym e ∙ is))
+      go (latin1 m is) = omega (arith, ap refusal-number (sym e ∙ is))
+      go (no-words is-present m none is) = omega (arith, ap refusal-number (sym e ∙ is))
+      go (no-mapping is-present m some bad is) = omega (arith, ap refusal-number (sym e ∙ is))
+      go (by-mapping good is) = omega (arith, ap refusal-number (sym e ∙ is))
 
   -- what is refused with 9 or 12 is refused before the page is looked at
   refused-points : (number : ℕ) → (number ≡ shortPage → ⊥) → (number ≡ 0 → ⊥) → (size : ℕ) → decodeOf bytes code words size .refusal ≡ number
@@ -232,43 +232,43 @@ module _ (bytes : List ℕ) (code : ℕ) (words : List ℕ) where
   -- "Refusal 9 now comes only for a mapping of no words.", for a present text of set 3 to 6, and then always
   pub nine-comes : 0 < length bytes → isMapped (setOf code) ≡ true → length words ≡ 0 → (size : ℕ) → decodeOf bytes code words size ≡ refusing setNotHeld
   nine-comes is-present mapped none size =
-      decode-refused setNotHeld (points-mapped is-present mapped ∙ mapped-none bytes (setOf code) words none) size
+      decode-refused setNotHeld (points-mapped is-present mapped ∙ mapped-none words (setOf code) bytes none) size
 
   pub nine-only : (size : ℕ) → decodeOf bytes code words size .refusal ≡ setNotHeld
       → (0 < length bytes) × (isMapped (setOf code) ≡ true) × (length words ≡ 0)
-  unfolding refusal-of
+  unfolding refusal-number
   nine-only size nine = go source
     where
       e : pointsOf bytes code words ≡ refused setNotHeld
       e = refused-points setNotHeld (λ z. omega arith) (λ z. omega arith) size nine
 
       go : Source → (0 < length bytes) × (isMapped (setOf code) ≡ true) × (length words ≡ 0)
-      go (absent none is) = absurd (omega (arith, ap refusal-of (sym e ∙ is)))
-      go (latin1 m is) = absurd (omega (arith, ap refusal-of (sym e ∙ is)))
+      go (absent none is) = absurd (omega (arith, ap refusal-number (sym e ∙ is)))
+      go (latin1 m is) = absurd (omega (arith, ap refusal-number (sym e ∙ is)))
       go (no-words is-present m none is) = (is-present, m, none)
-      go (no-mapping is-present m some bad is) = absurd (omega (arith, ap refusal-of (sym e ∙ is)))
-      go (by-mapping good is) = absurd (omega (arith, ap refusal-of (sym e ∙ is)))
+      go (no-mapping is-present m some bad is) = absurd (omega (arith, ap refusal-number (sym e ∙ is)))
+      go (by-mapping good is) = absurd (omega (arith, ap refusal-number (sym e ∙ is)))
 
   -- "12, only for a present text of set 3 to 6, a mapping with a count missing ..; after 9", and then always
   pub twelve-comes : 0 < length bytes → isMapped (setOf code) ≡ true → (length words ≡ 0 → ⊥) → isMapping words ≡ false → (size : ℕ)
       → decodeOf bytes code words size ≡ refusing badMapping
   twelve-comes is-present mapped some bad size =
-      decode-refused badMapping (points-mapped is-present mapped ∙ mapped-bad bytes (setOf code) words some bad) size
+      decode-refused badMapping (points-mapped is-present mapped ∙ mapped-bad words (setOf code) bytes some bad) size
 
   pub twelve-only : (size : ℕ) → decodeOf bytes code words size .refusal ≡ badMapping
       → (0 < length bytes) × (isMapped (setOf code) ≡ true) × (length words ≡ 0 → ⊥) × (isMapping words ≡ false)
-  unfolding refusal-of
+  unfolding refusal-number
   twelve-only size twelve = go source
     where
       e : pointsOf bytes code words ≡ refused badMapping
       e = refused-points badMapping (λ z. omega arith) (λ z. omega arith) size twelve
 
       go : Source → (0 < length bytes) × (isMapped (setOf code) ≡ true) × (length words ≡ 0 → ⊥) × (isMapping words ≡ false)
-      go (absent none is) = absurd (omega (arith, ap refusal-of (sym e ∙ is)))
-      go (latin1 m is) = absurd (omega (arith, ap refusal-of (sym e ∙ is)))
-      go (no-words is-present m none is) = absurd (omega (arith, ap refusal-of (sym e ∙ is)))
+      go (absent none is) = absurd (omega (arith, ap refusal-number (sym e ∙ is)))
+      go (latin1 m is) = absurd (omega (arith, ap refusal-number (sym e ∙ is)))
+      go (no-words is-present m none is) = absurd (omega (arith, ap refusal-number (sym e ∙ is)))
       go (no-mapping is-present m some bad is) = (is-present, m, some, bad)
-      go (by-mapping good is) = absurd (omega (arith, ap refusal-of (sym e ∙ is)))
+      go (by-mapping good is) = absurd (omega (arith, ap refusal-number (sym e ∙ is)))
 
   -- "10 | short page | decoded text longer than the page lent", and only then
   pub ten-comes : (points : List ℕ) → pointsOf bytes code words ≡ gives points → (size : ℕ) → size < length (encoded points)
@@ -285,26 +285,40 @@ module _ (bytes : List ℕ) (code : ℕ) (words : List ℕ) where
       go (too-long points e h) = (points, e, h)
       go (fitting points e h) = absurd (omega (arith, sym ten ∙ refusals (decode-by e size ∙ answer-fits points size h)))
 
-  -- ---- a page that is long enough
-  -- a text of bytes has at most eight for each: twice as many as they are in Latin-1
-  text-size : ((i : ℕ) → getD bytes i 0 < 256) → (points : List ℕ) → pointsOf bytes code words ≡ gives points → length (encoded points) ≤ 8 * length bytes
-  text-size small points e = go source
+  -- ---- how long a text is
+  -- a present one has at least a byte, and no text more than eight for each byte of its string
+  text-size : (points : List ℕ) → pointsOf bytes code words ≡ gives points
+      → (0 < length bytes → 0 < length (encoded points)) × (length (encoded points) ≤ 8 * length bytes)
+  unfolding refusal-number
+  text-size points e = go source
     where
       size-of : Decoded → ℕ
       size-of (refused number) = zero
       size-of (gives points) = length (encoded points)
 
-      go : Source → length (encoded points) ≤ 8 * length bytes
-      go (absent none is) = omega (arith, ap length encoded-none, ap size-of (sym e ∙ is))
-      go (latin1 m is) = omega (arith, latin1-length bytes small, ap size-of (sym e ∙ is))
-      go (no-words is-present m none is) = omega (arith, ap size-of (sym e ∙ is))
-      go (no-mapping is-present m some bad is) = omega (arith, ap size-of (sym e ∙ is))
-      go (by-mapping good is) = omega (arith, text-most words (setOf code) bytes, ap size-of (sym e ∙ is))
+      same : {d : Decoded} → pointsOf bytes code words ≡ d → length (encoded points) ≡ size-of d
+      same is = ap size-of (sym e ∙ is)
 
-  pub eight-times-is-enough : ((i : ℕ) → getD bytes i 0 < 256) → (size : ℕ) → 8 * length bytes ≤ size → decodeOf bytes code words size .refusal ≡ shortPage → ⊥
-  eight-times-is-enough small size room ten = let t = ten-only size ten in omega (arith, t .2, text-size small (t .0) (t .1))
+      refuses : {number : ℕ} → pointsOf bytes code words ≡ refused number → ⊥
+      refuses is = omega (arith, ap refusal-number (sym e ∙ is))
 
-  -- in Latin-1 twice as many are
+      go : Source → (0 < length bytes → 0 < length (encoded points)) × (length (encoded points) ≤ 8 * length bytes)
+      go (absent none is) = (λ h. absurd (omega arith), omega (arith, ap length encoded-none, same is))
+      go (latin1 m is) = let n = encoded-length bytes in (λ h. omega (arith, n .0, same is), omega (arith, n .1, same is))
+      go (no-words is-present m none is) = absurd (refuses is)
+      go (no-mapping is-present m some bad is) = absurd (refuses is)
+      go (by-mapping good is) =
+          let n = same is in (λ h. omega (arith, text-some words (setOf code) bytes h), omega (arith, text-most words (setOf code) bytes))
+
+  -- "Present means at least one byte.": a present text is not decoded to nothing
+  pub present-is-some : (points : List ℕ) → pointsOf bytes code words ≡ gives points → 0 < length bytes → 0 < length (encoded points)
+  present-is-some points e = text-size points e .0
+
+  -- a page of eight times the bytes is never too short
+  pub eight-times-is-enough : (size : ℕ) → 8 * length bytes ≤ size → decodeOf bytes code words size .refusal ≡ shortPage → ⊥
+  eight-times-is-enough size room ten = let t = ten-only size ten in omega (arith, t .2, text-size (t .0) (t .1) .1)
+
+  -- of Latin-1 one of twice the bytes is not
   pub twice-is-enough : isMapped (setOf code) ≡ false → ((i : ℕ) → getD bytes i 0 < 256) → (size : ℕ) → 2 * length bytes ≤ size
       → decodeOf bytes code words size .refusal ≡ shortPage → ⊥
   twice-is-enough held small size room ten =

@@ -11,12 +11,13 @@ pub mod Ascii
 pub mod Utf8
 pub mod Utf8Laws
 pub mod Mapping
-pub mod Layout
+pub mod Parts
 pub mod MappingLaws
-pub mod LayoutLaws
+pub mod PartsLaws
 pub mod Mapped
-pub mod Element
 pub mod MappedLaws
+pub mod Element
+pub mod ElementLaws
 pub mod Decode
 pub mod DecodeLaws
 pub mod White

@@ -1,5 +1,5 @@
 -- A string's bytes become code points by a mapping (02, item 1: "Decoding follows `decode_string`, the reserved Shift JIS pairs included; it is
--- shown over any mapping, not per set."). Assumes nothing.
+-- shown over any mapping, not per set."), as in its `decode`; that it then makes controls blanks is `blanked` of Utf8. Assumes nothing.
 use Prim.Native.Nat.{ℕ, _+_, _*_, _-_}
 use mathlib.Core.Bool.{Bool, false, cond, _&&_, _||_}
 use mathlib.Core.List.{List, [], _∷_, flatMap}
@@ -34,19 +34,19 @@ isReserved key = isIn key reservedPairs
 abbrev pub shiftJis : ℕ
 shiftJis = 3
 
+-- whether two bytes are taken together: as a pair of the mapping or, in set 3, as a reserved one
+unfoldable pub isPair : List ℕ → ℕ → ℕ → Bool
+isPair pairs set key = lookupIn key pairs .there || eqb set shiftJis && isReserved key
+
 -- by the singles and pairs of a mapping, in a set
 module _ (singles pairs : List ℕ) (set : ℕ) where
-  -- whether two bytes are taken together: as a pair of the mapping or, in set 3, as a reserved one
-  unfoldable pub isPair : ℕ → Bool
-  isPair key = lookupIn key pairs .there || eqb set shiftJis && isReserved key
-
   -- the values of a string's bytes, from the first on: a pair where two bytes are one, else the byte by itself; the last byte always by itself. Behind
   -- an unmapped pair it goes on from the second byte
   unfoldable pub valuesOf : List ℕ → List ℕ
   valuesOf [] = []
   valuesOf (byte ∷ []) = valueIn singles byte ∷ []
   valuesOf (byte ∷ next ∷ rest) =
-      cond (isPair (pairKey byte next)) (valueIn pairs (pairKey byte next) ∷ valuesOf rest) (valueIn singles byte ∷ valuesOf (next ∷ rest))
+      cond (isPair pairs set (pairKey byte next)) (valueIn pairs (pairKey byte next) ∷ valuesOf rest) (valueIn singles byte ∷ valuesOf (next ∷ rest))
 
 -- "A value is a code point, or 2^31 plus an index into the doubles.": its code points, one or two
 unfoldable pub valuePoints : List ℕ → ℕ → List ℕ

@@ -1,6 +1,6 @@
 -- Laws of lent mappings: when words have all their parts, what the test of entries says of them, and which value a key has. Assumes nothing.
 use mathlib.Core.Path.{_≡_, refl, sym, ap, _∙_}
-use mathlib.Core.Bool.{Bool, true, false, cond, _&&_, _||_, and-eq-true-iff, and-assoc, and-false, true≢false}
+use mathlib.Core.Bool.{Bool, true, false, cond, _&&_, and-eq-true-iff, and-assoc, and-false, true≢false}
 use mathlib.Core.List.{List, [], _∷_}
 use Prim.Native.Nat.{ℕ, zero, suc, _+_, _*_, _≤_, _<_}
 use native.Mathlib.Numerals.{add-one}
@@ -10,29 +10,25 @@ use lib.Dec.{leb, ltb, eqb}
 use lib.ListN.{length, getD, drop, drop-of-length-le}
 use lib.Seq.{drop-cons}
 use Rattle.sectors.specs.FillLaws.{part-length}
-use Rattle.text.specs.Mapping.{countAt, behind, entriesAt, singlesAt, pairsAt, doublesAt, wordsEnd, singlesOf, pairsOf, doublesOf, doubleCount, isWhole, isPoint, doubleBase, isValue, entriesSound, allPoints, singleWidth, pairWidth, isSound, isMapping, found, notFound, lookupIn}
-
--- keys rise: any entry's is below any later one's
-abbrev pub Rising : List ℕ → Type 0
-Rising entries = (i j : ℕ) → i < j → 2 * j + 1 < length entries → getD entries (2 * i) 0 < getD entries (2 * j) 0
+use Rattle.text.specs.Mapping.{countAt, behind, entriesAt, singlesAt, pairsAt, doublesAt, wordsEnd, doublesOf, doubleCount, isWhole, isPoint, isValue, entriesSound, allPoints, listsSound, isMapping, found, notFound, lookupIn, Rising}
 
 -- the next entry stands two words on
 two-more : (j : ℕ) → 2 * suc j ≡ suc (suc (2 * j))
 two-more j = omega arith
 
-module _ (width doubles : ℕ) where
+module _ (width count : ℕ) where
   -- what the test of an entry and those behind it says
-  pub sound-first : (least key value : ℕ) (rest : List ℕ) → entriesSound width doubles least (key ∷ value ∷ rest) ≡ true
-      → (least ≤ key) × (key < width) × (isValue doubles value ≡ true) × (entriesSound width doubles (key + 1) rest ≡ true)
+  pub sound-first : (least key value : ℕ) (rest : List ℕ) → entriesSound width count least (key ∷ value ∷ rest) ≡ true
+      → (least ≤ key) × (key < width) × (isValue count value ≡ true) × (entriesSound width count (key + 1) rest ≡ true)
   unfolding entriesSound
   sound-first least key value rest e =
-      let all = and-eq-true-iff (leb least key && ltb key width && isValue doubles value) (entriesSound width doubles (key + 1) rest) .0 e in
-      let three = and-eq-true-iff (leb least key && ltb key width) (isValue doubles value) .0 (all .0) in
+      let all = and-eq-true-iff (leb least key && ltb key width && isValue count value) (entriesSound width count (key + 1) rest) .0 e in
+      let three = and-eq-true-iff (leb least key && ltb key width) (isValue count value) .0 (all .0) in
       let two = and-eq-true-iff (leb least key) (ltb key width) .0 (three .0) in
       (leb-true least key (two .0), ltb-true key width (two .1), three .1, all .1)
 
   -- no key is below the least
-  sound-least : (least : ℕ) (entries : List ℕ) → entriesSound width doubles least entries ≡ true
+  sound-least : (least : ℕ) (entries : List ℕ) → entriesSound width count least entries ≡ true
       → (j : ℕ) → 2 * j + 1 < length entries → least ≤ getD entries (2 * j) 0
   sound-least least [] e j h = absurd (omega arith)
   sound-least least (key ∷ []) e j h = absurd (omega arith)
@@ -42,7 +38,7 @@ module _ (width doubles : ℕ) where
       rw (two-more j) (omega (arith, sound-least (key + 1) rest (s .3) j (omega arith)))
 
   -- sound entries have keys that rise
-  pub sound-rising : (least : ℕ) (entries : List ℕ) → entriesSound width doubles least entries ≡ true → Rising entries
+  pub sound-rising : (least : ℕ) (entries : List ℕ) → entriesSound width count least entries ≡ true → Rising entries
   sound-rising least [] e i j l h = absurd (omega arith)
   sound-rising least (key ∷ []) e i j l h = absurd (omega arith)
   sound-rising least (key ∷ value ∷ rest) e i zero l h = absurd (omega arith)
@@ -54,22 +50,16 @@ module _ (width doubles : ℕ) where
       rw (two-more i, two-more j) (sound-rising (key + 1) rest (s .3) i j (omega arith) (omega arith))
 
   -- the value of a key in sound entries is a value
-  pub sound-value : (least : ℕ) (entries : List ℕ) → entriesSound width doubles least entries ≡ true
-      → (key : ℕ) → lookupIn key entries .there ≡ true → isValue doubles (lookupIn key entries .value) ≡ true
+  pub sound-value : (least : ℕ) (entries : List ℕ) → entriesSound width count least entries ≡ true
+      → (key : ℕ) → lookupIn key entries .there ≡ true → isValue count (lookupIn key entries .value) ≡ true
   unfolding lookupIn found notFound
-  sound-value least [] e key t = absurd (none t)
-    where
-      none : false ≡ true → ⊥
-      none z = let n : _≡_ {A = ℕ} 0 1 = cc in omega arith
-  sound-value least (k ∷ []) e key t = absurd (none t)
-    where
-      none : false ≡ true → ⊥
-      none z = let n : _≡_ {A = ℕ} 0 1 = cc in omega arith
+  sound-value least [] e key t = absurd (true≢false (sym t))
+  sound-value least (k ∷ []) e key t = absurd (true≢false (sym t))
   sound-value least (k ∷ value ∷ rest) e key t = go (eqb k key) t (sound-value (k + 1) rest (sound-first least k value rest e .3) key)
     where
       go : (b : Bool) → cond b (found value) (lookupIn key rest) .there ≡ true
-          → (lookupIn key rest .there ≡ true → isValue doubles (lookupIn key rest .value) ≡ true)
-          → isValue doubles (cond b (found value) (lookupIn key rest) .value) ≡ true
+          → (lookupIn key rest .there ≡ true → isValue count (lookupIn key rest .value) ≡ true)
+          → isValue count (cond b (found value) (lookupIn key rest) .value) ≡ true
       go true _ _ = sound-first least k value rest e .2
       go false u later = later u
 
@@ -101,28 +91,28 @@ drop-two l i h =
     rw (add-one i, two) (drop-cons l i 0 (omega arith) ∙ ap (λ (r : List ℕ). getD l i 0 ∷ r) (drop-cons l (suc i) 0 (omega arith)))
 
 -- ---- tests that pass over a list from the left
-module _ (width doubles : ℕ) where
+module _ (width count : ℕ) where
   -- an entry more
   pub sound-next : (l : List ℕ) (i : ℕ) → i + 1 < length l → (least : ℕ) (so-far : Bool)
-      → (so-far && entriesSound width doubles least (drop i l))
-      ≡ (so-far && (leb least (getD l i 0) && ltb (getD l i 0) width && isValue doubles (getD l (i + 1) 0))
-      && entriesSound width doubles (getD l i 0 + 1) (drop (i + 2) l))
+      → (so-far && entriesSound width count least (drop i l))
+      ≡ (so-far && (leb least (getD l i 0) && ltb (getD l i 0) width && isValue count (getD l (i + 1) 0))
+      && entriesSound width count (getD l i 0 + 1) (drop (i + 2) l))
   unfolding entriesSound
   sound-next l i h least so-far =
       let key = getD l i 0 in let value = getD l (i + 1) 0 in let rest = drop (i + 2) l in
-      ap (λ (r : List ℕ). so-far && entriesSound width doubles least r) (drop-two l i h)
-      ∙ sym (and-assoc so-far (leb least key && ltb key width && isValue doubles value) (entriesSound width doubles (key + 1) rest))
+      ap (λ (r : List ℕ). so-far && entriesSound width count least r) (drop-two l i h)
+      ∙ sym (and-assoc so-far (leb least key && ltb key width && isValue count value) (entriesSound width count (key + 1) rest))
 
   -- the first entry: no key is below 0
   pub sound-start : (l : List ℕ) → 1 < length l
-      → (ltb (getD l 0 0) width && isValue doubles (getD l 1 0) && entriesSound width doubles (getD l 0 0 + 1) (drop 2 l)) ≡ entriesSound width doubles 0 l
+      → (ltb (getD l 0 0) width && isValue count (getD l 1 0) && entriesSound width count (getD l 0 0 + 1) (drop 2 l)) ≡ entriesSound width count 0 l
   unfolding entriesSound
   sound-start [] h = absurd (omega arith)
   sound-start (key ∷ []) h = absurd (omega arith)
   sound-start (key ∷ value ∷ rest) h = sym (simp (le-leb 0 key (omega arith)))
 
   -- no entry more
-  pub sound-end : (l : List ℕ) → length l ≤ 1 → (least : ℕ) → entriesSound width doubles least l ≡ true
+  pub sound-end : (l : List ℕ) → length l ≤ 1 → (least : ℕ) → entriesSound width count least l ≡ true
   unfolding entriesSound
   sound-end [] h least = refl
   sound-end (x ∷ []) h least = refl
@@ -200,11 +190,11 @@ module _ (words : List ℕ) where
   unfolding isMapping
   mapping-cut e = simp e
 
-  pub mapping-whole : isWhole words ≡ true → isMapping words ≡ isSound words
+  pub mapping-whole : isWhole words ≡ true → isMapping words ≡ listsSound words
   unfolding isMapping
   mapping-whole e = simp e
 
   -- a mapping has its parts, and what stands in them is sound
-  pub mapping-is : isMapping words ≡ true → (isWhole words ≡ true) × (isSound words ≡ true)
+  pub mapping-is : isMapping words ≡ true → (isWhole words ≡ true) × (listsSound words ≡ true)
   unfolding isMapping
-  mapping-is e = and-eq-true-iff (isWhole words) (isSound words) .0 e
+  mapping-is e = and-eq-true-iff (isWhole words) (listsSound words) .0 e

@@ -1,7 +1,7 @@
 -- The numbers of refusals (01, "What the desk gets back"; 02) that this layer gives; 0 where nothing is refused.
 use Prim.Native.Nat.{ℕ}
 
--- "9 | set not held | decoding a present text of set 3 to 6"
+-- "9 | set not held | decoding a present text of set 3 to 6". "Refusal 9 now comes only for a mapping of no words." (02, item 1)
 abbrev pub setNotHeld : ℕ
 setNotHeld = 9
 

@@ -25,7 +25,7 @@ utf8 point =
 abbrev pub blank : ℕ
 blank = 0x20
 
--- "bytes below 32 becoming a blank": code points below 32 do, which in Latin-1 is the same
+-- "bytes below 32 becoming a blank": code points below 32 do, which in Latin-1 is the same and by a mapping is what `decode_string` does
 unfoldable pub blanked : ℕ → ℕ
 blanked point = cond (ltb point 32) blank point
 

@@ -4,7 +4,7 @@ ghost use Prim.Native.Nat.{_<_};
 ghost use lib.ListN.{length, drop};
 ghost use Rattle.text.specs.Element.{elementOf};
 ghost use Rattle.text.specs.Mapped.{isReserved, valueIn};
-ghost use Rattle.text.specs.MappingLaws.{Rising};
+ghost use Rattle.text.specs.Mapping.{Rising};
 use crate::lookup::lookup;
 
 // A value, and how many bytes it takes.

@@ -1,7 +1,6 @@
 // The value of a key in a list of entries, two words each, whose keys rise.
 ghost use mathlib.Core.Path.{_≡_};
-ghost use Rattle.text.specs.Mapping.{lookupIn};
-ghost use Rattle.text.specs.MappingLaws.{Rising};
+ghost use Rattle.text.specs.Mapping.{Rising, lookupIn};
 
 // Whether a key has a value, and which; 0 if it has none.
 pub(crate) struct Found {

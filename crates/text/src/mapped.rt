@@ -5,18 +5,17 @@ ghost use lib.Dec.{leb};
 ghost use lib.ListN.{length};
 ghost use Rattle.sectors.specs.Fill.{fill};
 ghost use Rattle.text.specs.Decode.{mappedOf, answerIn, pageWith};
-ghost use Rattle.text.specs.Element.{valueText, mappedText};
-ghost use Rattle.text.specs.Layout.{MappingAt};
-ghost use Rattle.text.specs.MappedLaws.{HasPoints};
+ghost use Rattle.text.specs.Element.{HasPoints, valueText, mappedText};
+ghost use Rattle.text.specs.Parts.{MappingAt};
 ghost use Rattle.text.specs.Utf8.{utf8, blanked};
 use crate::decode::DecodeAnswer;
 use crate::element::element_at;
 use crate::mapping::DOUBLE_BASE;
-use crate::mapping::Layout;
+use crate::mapping::Parts;
 use crate::mapping::doubles_of;
 use crate::mapping::is_mapping;
-use crate::mapping::layout_of;
 use crate::mapping::pairs_of;
+use crate::mapping::parts_of;
 use crate::mapping::singles_of;
 use crate::refusal::BAD_MAPPING;
 use crate::refusal::SET_NOT_HELD;
@@ -69,13 +68,13 @@ fn put_value(page: &mut [u8], at: usize, doubles: &[u32], value: u32) -> usize
 }
 
 // Whether the text of a string has at most so many bytes: what is left of them is counted down.
-fn fits(bytes: &[u8], set: u8, words: &[u32], at: Layout, room: usize) -> bool
-    requires { ⌜ MappingAt (now words) at ⌝ }
+fn fits(bytes: &[u8], set: u8, words: &[u32], parts: Parts, room: usize) -> bool
+    requires { ⌜ MappingAt (now words) parts ⌝ }
     ensures { λ r. ⌜ r ≡ leb (length (mappedText (now (words .entry)) set (now (bytes .entry)))) room ⌝ }
 {
-    let singles = singles_of(words, at);
-    let pairs = pairs_of(words, at);
-    let doubles = doubles_of(words, at);
+    let singles = singles_of(words, parts);
+    let pairs = pairs_of(words, parts);
+    let doubles = doubles_of(words, parts);
     let mut left = room;
     let mut i = 0;
     while i < bytes.len() {
@@ -91,25 +90,25 @@ fn fits(bytes: &[u8], set: u8, words: &[u32], at: Layout, room: usize) -> bool
 }
 
 // The same, without a look at the bytes where there is room for whatever they give.
-fn has_room(bytes: &[u8], set: u8, words: &[u32], at: Layout, room: usize) -> bool
-    requires { ⌜ MappingAt (now words) at ⌝ }
+fn has_room(bytes: &[u8], set: u8, words: &[u32], parts: Parts, room: usize) -> bool
+    requires { ⌜ MappingAt (now words) parts ⌝ }
     ensures { λ r. ⌜ r ≡ leb (length (mappedText (now (words .entry)) set (now (bytes .entry)))) room ⌝ }
 {
     if bytes.len() <= room / MOST_BYTES {
         return true;
     }
-    fits(bytes, set, words, at, room)
+    fits(bytes, set, words, parts, room)
 }
 
 // Writes the text of a string to the start of a page; answers how many bytes it has.
-fn put_mapped(bytes: &[u8], set: u8, words: &[u32], at: Layout, page: &mut [u8]) -> usize
-    requires { ⌜ MappingAt (now words) at × (length (mappedText (now words) set (now bytes)) ≤ length (now page)) ⌝ }
+fn put_mapped(bytes: &[u8], set: u8, words: &[u32], parts: Parts, page: &mut [u8]) -> usize
+    requires { ⌜ MappingAt (now words) parts × (length (mappedText (now words) set (now bytes)) ≤ length (now page)) ⌝ }
     ensures filled { λ r. ⌜ now (page .exit) ≡ fill 0 (mappedText (now (words .entry)) set (now (bytes .entry))) (now (page .entry)) ⌝ }
     ensures size { λ r. ⌜ r ≡ length (mappedText (now (words .entry)) set (now (bytes .entry))) ⌝ }
 {
-    let singles = singles_of(words, at);
-    let pairs = pairs_of(words, at);
-    let doubles = doubles_of(words, at);
+    let singles = singles_of(words, parts);
+    let pairs = pairs_of(words, parts);
+    let doubles = doubles_of(words, parts);
     let mut len = 0;
     let mut i = 0;
     while i < bytes.len() {
@@ -122,8 +121,8 @@ fn put_mapped(bytes: &[u8], set: u8, words: &[u32], at: Layout, page: &mut [u8])
 
 // Decodes a string of set 3 to 6 by a mapping.
 pub(crate) fn decode_mapped(bytes: &[u8], set: u8, words: &[u32], page: &mut [u8]) -> DecodeAnswer
-    ensures answer { λ r. ⌜ r ≡ answerIn (length (now (page .entry))) (mappedOf (now (bytes .entry)) set (now (words .entry))) ⌝ }
-    ensures filled { λ r. ⌜ now (page .exit) ≡ pageWith (mappedOf (now (bytes .entry)) set (now (words .entry))) (now (page .entry)) ⌝ }
+    ensures answer { λ r. ⌜ r ≡ answerIn (length (now (page .entry))) (mappedOf (now (words .entry)) set (now (bytes .entry))) ⌝ }
+    ensures filled { λ r. ⌜ now (page .exit) ≡ pageWith (mappedOf (now (words .entry)) set (now (bytes .entry))) (now (page .entry)) ⌝ }
 {
     if words.len() == 0 {
         return DecodeAnswer {
@@ -131,19 +130,19 @@ pub(crate) fn decode_mapped(bytes: &[u8], set: u8, words: &[u32], page: &mut [u8
             len: 0,
         };
     }
-    let at = layout_of(words);
-    if !is_mapping(words, at) {
+    let parts = parts_of(words);
+    if !is_mapping(words, parts) {
         return DecodeAnswer {
             refusal: BAD_MAPPING,
             len: 0,
         };
     }
-    if !has_room(bytes, set, words, at, page.len()) {
+    if !has_room(bytes, set, words, parts, page.len()) {
         return DecodeAnswer {
             refusal: SHORT_PAGE,
             len: 0,
         };
     }
-    let len = put_mapped(bytes, set, words, at, page);
+    let len = put_mapped(bytes, set, words, parts, page);
     DecodeAnswer { refusal: 0, len }
 }

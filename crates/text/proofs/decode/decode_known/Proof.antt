@@ -32,7 +32,7 @@ returns-2 c =
     let a = e .before .before .before .before .args in let bytes = now (a .bytes) in let words = now (a .mapping) in let page = now (a .page) in
     let m = not-latin1-mapped (a .code) (λ z. t .if2 .taken (k .charset .ensures ∙ z)) in
     let set = sym (charset-mapped (a .code) m) ∙ sym (k .charset .ensures) in
-    let is = points-mapped bytes (a .code) words (omega (arith, e .if1 .left)) m ∙ ap (λ (n : ℕ). mappedOf bytes n words) set in
+    let is = points-mapped bytes (a .code) words (omega (arith, e .if1 .left)) m ∙ ap (λ (n : ℕ). mappedOf words n bytes) set in
     (d .decode-mapped .ensures .0 ∙ sym (decode-by bytes (a .code) words is (length page)), d .decode-mapped .ensures .1 ∙ sym (into-by bytes (a .code) words is page))
 
 decode-latin1-requires : tie.Need-decode-latin1-requires

@@ -1,15 +1,13 @@
 -- `text::element::element_at` meets its contract: the tests are the definition's. Assumes nothing.
-use mathlib.Core.Path.{_≡_, refl, sym, ap, _∙_}
-use Prim.Native.Nat.{ℕ, _+_, _*_, _≤_, _<_}
+use mathlib.Core.Path.{sym, ap, _∙_}
+use Prim.Native.Nat.{_+_}
 use native.Mathlib.Omega.{arith}
 use denote.Ref.{now}
 use mathlib.Core.Bool.{Bool, _&&_}
 use lib.Dec.{eqb}
-use lib.ListN.{length, getD}
-use Rattle.text.specs.Mapped.{shiftJis, isReserved}
-use Rattle.text.specs.MappedLaws.{element-pair, element-reserved, element-one, element-last}
+use Rattle.text.specs.Mapped.{shiftJis}
+use Rattle.text.specs.ElementLaws.{element-pair, element-reserved, element-one, element-last}
 use Rattle.text.specs.declared.lookup.Found.{Found}
-use Rattle.text.specs.declared.element.Element.{Element}
 use borrow.Author.Needs.{needs}
 use Rattle.text.proofs.element.element_at.Statement.{statement}
 use Rattle.text.proofs.element.element_at.Tie as tie

@@ -1,5 +1,4 @@
 -- `text::element::is_reserved` meets its contract: the tests are the definition's list. Assumes nothing.
-use mathlib.Core.Path.{refl}
 use mathlib.Core.Bool.{or-false}
 use Rattle.text.specs.Mapped.{isIn, isReserved}
 use Rattle.text.proofs.element.is_reserved.Statement.{statement}

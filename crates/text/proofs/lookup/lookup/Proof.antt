@@ -1,6 +1,6 @@
 -- `text::lookup::lookup` meets its contract: the keys before `base` are below the key, those from `base + size` on above it; where one
 -- entry is left it has the key, or none has. Assumes nothing.
-use mathlib.Core.Path.{_≡_, refl, sym, ap, _∙_}
+use mathlib.Core.Path.{_≡_, refl, sym}
 use mathlib.Core.Bool.{Bool, true, false}
 use mathlib.Core.List.{List}
 use mathlib.Core.Logic.{⊎-elim}
@@ -10,22 +10,22 @@ use denote.Ref.{now}
 use lib.ListN.{length, getD}
 use lib.Dec.{ltb}
 use borrow.Author.Tests.{ltb-true, ltb-false}
-use Rattle.text.specs.Mapping.{found, notFound, lookupIn}
-use Rattle.text.specs.MappingLaws.{Rising, lookup-at, lookup-none}
+use Rattle.text.specs.Mapping.{found, notFound, lookupIn, Rising}
+use Rattle.text.specs.MappingLaws.{lookup-at, lookup-none}
 use Rattle.text.proofs.lookup.lookup.Statement.{statement}
 use Rattle.text.proofs.lookup.lookup.Tie as tie
 
 -- the entries among which the key may stand
 record Bracket (entries : List ℕ) (key base size : ℕ) : Type 0 where
-  some : 1 ≤ size
+  one : 1 ≤ size
   inside : 2 * (base + size) ≤ length entries
   below : (j : ℕ) → j < base → getD entries (2 * j) 0 < key
   above : (j : ℕ) → base + size ≤ j → 2 * j + 1 < length entries → key < getD entries (2 * j) 0
 
 module _ (entries : List ℕ) (key : ℕ) where
   start : (size : ℕ) → size ≡ length entries / 2 → 1 ≤ size → Bracket entries key 0 size
-  start size e some =
-      record { some = some; inside = omega arith; below = λ j h. absurd (omega arith); above = λ j h k. absurd (omega arith) }
+  start size e one =
+      record { one = one; inside = omega arith; below = λ j h. absurd (omega arith); above = λ j h k. absurd (omega arith) }
 
   -- a key above at one entry is above at those behind it
   from : Rising entries → (p : ℕ) → key < getD entries (2 * p) 0 → (j : ℕ) → p ≤ j → 2 * j + 1 < length entries → key < getD entries (2 * j) 0
@@ -42,7 +42,7 @@ module _ (entries : List ℕ) (key : ℕ) where
     up h =
         let inside = b .inside in
         record {
-          some = omega arith;
+          one = omega arith;
           inside = omega arith;
           below = λ j l. omega (arith, rising j (base + half) l (omega arith));
           above = λ j l k. b .above j (omega arith) k;
@@ -51,7 +51,7 @@ module _ (entries : List ℕ) (key : ℕ) where
     down : key < getD entries (2 * (base + half)) 0 → Bracket entries key base (size - half)
     down h =
         let inside = b .inside in
-        record { some = omega arith; inside = omega arith; below = b .below; above = λ j l k. from rising (base + half) h j (omega arith) k }
+        record { one = omega arith; inside = omega arith; below = b .below; above = λ j l k. from rising (base + half) h j (omega arith) k }
 
   module _ (rising : Rising entries) (base size : ℕ) (b : Bracket entries key base size) (last : size ≤ 1) where
     not-there : (getD entries (2 * base) 0 ≡ key → ⊥) → notFound ≡ lookupIn key entries
@@ -66,7 +66,7 @@ module _ (entries : List ℕ) (key : ℕ) where
 
     there : getD entries (2 * base) 0 ≡ key → found (getD entries (2 * base + 1) 0) ≡ lookupIn key entries
     there e =
-        let some = b .some in let inside = b .inside in
+        let one = b .one in let inside = b .inside in
         sym (lookup-at key entries base (omega arith) e (λ j l z. absurd (omega (arith, b .below j l))))
 
 abbrev Inv-loop : tie.InvT-loop

@@ -10,17 +10,17 @@ use lib.Dec.{leb}
 use lib.ListN.{length, drop, length-append}
 use Rattle.text.specs.Mapping.{singlesOf, pairsOf, doublesOf}
 use Rattle.text.specs.Element.{elementOf, valueText, mappedText}
-use Rattle.text.specs.LayoutLaws.{mapping-parts}
-use Rattle.text.specs.MappedLaws.{size-step, text-step, text-end}
+use Rattle.text.specs.PartsLaws.{mapping-whole-at}
+use Rattle.text.specs.ElementLaws.{size-step, text-step, text-end}
 use Rattle.text.specs.declared.element.Element.{Element}
-use Rattle.text.proofs.Elements.{both-rise, of-mapping, has-points}
+use Rattle.text.proofs.Elements.{both-rise, of-mapping, has-points, next-inside}
 use Rattle.text.proofs.mapped.fits.Statement.{statement}
 use Rattle.text.proofs.mapped.fits.Tie as tie
 
 -- the bytes that the room still has, and those of the text that are still to come
 record Measured (words : List ℕ) (set : ℕ) (bytes : List ℕ) (room left i : ℕ) : Type 0 where
   within : i ≤ length bytes
-  some : left ≤ room
+  less : left ≤ room
   sum : length (mappedText words set bytes) + left ≡ room + length (mappedText words set (drop i bytes))
 
 module _ {words : List ℕ} {set : ℕ} {bytes : List ℕ} {room left i : ℕ} (m : Measured words set bytes room left i) where
@@ -36,7 +36,7 @@ module _ {words : List ℕ} {set : ℕ} {bytes : List ℕ} {room left i : ℕ} (
     too-long h = sym (lt-leb (length (mappedText words set bytes)) room (omega (arith, m .sum, next)))
 
     more : size ≤ left → Measured words set bytes room (left - size) (i + e .size)
-    more h = record { within = size-step words set bytes i inside is .1; some = omega arith; sum = omega (arith, m .sum, next) }
+    more h = record { within = size-step words set bytes i inside is .1; less = omega arith; sum = omega (arith, m .sum, next) }
 
   done : length bytes ≤ i → true ≡ leb (length (mappedText words set bytes)) room
   done h =
@@ -50,16 +50,16 @@ abbrev μ-loop : tie.MeasureT-loop
 μ-loop bytes set words room singles pairs doubles left₀ i₀ left i = length bytes - i
 
 singles-of-requires : tie.Need-singles-of-requires Inv-loop μ-loop
-singles-of-requires c κs = mapping-parts _ (c .before .before .pre)
+singles-of-requires c κs = mapping-whole-at _ (c .before .before .pre)
 
 pairs-of-requires : tie.Need-pairs-of-requires Inv-loop μ-loop
-pairs-of-requires c κs = mapping-parts _ (c .before .before .before .pre)
+pairs-of-requires c κs = mapping-whole-at _ (c .before .before .before .pre)
 
 doubles-of-requires : tie.Need-doubles-of-requires Inv-loop μ-loop
-doubles-of-requires c κs = mapping-parts _ (c .before .before .before .before .pre)
+doubles-of-requires c κs = mapping-whole-at _ (c .before .before .before .before .pre)
 
 loop-holds : tie.Need-loop-holds Inv-loop μ-loop
-loop-holds c = record { within = omega arith; some = omega arith; sum = omega arith }
+loop-holds c = record { within = omega arith; less = omega arith; sum = omega arith }
 
 element-at-requires : tie.Need-element-at-requires Inv-loop μ-loop
 element-at-requires c κs =
@@ -80,15 +80,13 @@ returns c =
 
 add-i : tie.Need-add-i Inv-loop μ-loop
 add-i c =
-    let e = c .before .before .before in let t = e .before in let l = t .before in let p = l .before .before in let s = p .before in let k = s .before .before .before in let a = k .args in
-    let is = of-mapping (k .pre) (s .singles-of .ensures) (p .pairs-of .ensures) _ _ (e .element-at .ensures) in
-    omega (arith, size-step (now (a .words)) (a .set) (now (a .bytes)) (l .loop .i) (t .loop-test .taken) is .1)
+    let e = c .before .before .before in let t = e .before in let l = t .before in let p = l .before .before in let s = p .before in let k = s .before .before .before in
+    omega (arith, next-inside (k .pre) (s .singles-of .ensures) (p .pairs-of .ensures) (k .args .set) (now (k .args .bytes)) (l .loop .i) (e .element-at .ensures) (t .loop-test .taken) .1)
 
 loop-less : tie.Need-loop-less Inv-loop μ-loop
 loop-less c =
-    let e = c .before .before .before in let t = e .before in let l = t .before in let p = l .before .before in let s = p .before in let k = s .before .before .before in let a = k .args in
-    let is = of-mapping (k .pre) (s .singles-of .ensures) (p .pairs-of .ensures) _ _ (e .element-at .ensures) in
-    let size = size-step (now (a .words)) (a .set) (now (a .bytes)) (l .loop .i) (t .loop-test .taken) is in
+    let e = c .before .before .before in let t = e .before in let l = t .before in let p = l .before .before in let s = p .before in let k = s .before .before .before in
+    let size = next-inside (k .pre) (s .singles-of .ensures) (p .pairs-of .ensures) (k .args .set) (now (k .args .bytes)) (l .loop .i) (e .element-at .ensures) (t .loop-test .taken) in
     omega (arith, size .0, size .1)
 
 loop-again : tie.Need-loop-again Inv-loop μ-loop

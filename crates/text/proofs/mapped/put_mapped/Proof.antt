@@ -12,10 +12,10 @@ use Rattle.sectors.specs.Fill.{fill}
 use Rattle.sectors.specs.FillLaws.{fill-none, fill-more, length-fill}
 use Rattle.text.specs.Mapping.{singlesOf, pairsOf, doublesOf}
 use Rattle.text.specs.Element.{elementOf, valueText, mappedText}
-use Rattle.text.specs.LayoutLaws.{mapping-parts}
-use Rattle.text.specs.MappedLaws.{size-step, text-step, text-end}
+use Rattle.text.specs.PartsLaws.{mapping-whole-at}
+use Rattle.text.specs.ElementLaws.{size-step, text-step, text-end}
 use Rattle.text.specs.declared.element.Element.{Element}
-use Rattle.text.proofs.Elements.{both-rise, of-mapping, has-points}
+use Rattle.text.proofs.Elements.{both-rise, of-mapping, has-points, next-inside}
 use Rattle.text.proofs.mapped.put_mapped.Statement.{statement}
 use Rattle.text.proofs.mapped.put_mapped.Tie as tie
 
@@ -87,13 +87,13 @@ abbrev μ-loop : tie.MeasureT-loop
 μ-loop bytes set words page₀ singles pairs doubles len₀ i₀ page len i = length bytes - i
 
 singles-of-requires : tie.Need-singles-of-requires Inv-loop μ-loop
-singles-of-requires c κs = mapping-parts _ (c .before .before .before .pre .0)
+singles-of-requires c κs = mapping-whole-at _ (c .before .before .before .pre .0)
 
 pairs-of-requires : tie.Need-pairs-of-requires Inv-loop μ-loop
-pairs-of-requires c κs = mapping-parts _ (c .before .before .before .before .pre .0)
+pairs-of-requires c κs = mapping-whole-at _ (c .before .before .before .before .pre .0)
 
 doubles-of-requires : tie.Need-doubles-of-requires Inv-loop μ-loop
-doubles-of-requires c κs = mapping-parts _ (c .before .before .before .before .before .pre .0)
+doubles-of-requires c κs = mapping-whole-at _ (c .before .before .before .before .before .pre .0)
 
 loop-holds : tie.Need-loop-holds Inv-loop μ-loop
 loop-holds c =
@@ -117,16 +117,14 @@ put-value-requires c κs =
 add-i : tie.Need-add-i Inv-loop μ-loop
 add-i c =
     let e = c .before .before .before .before .before in let t = e .before in let l = t .before in let p = l .before .before in let s = p .before in
-    let k = s .before .before .before .before in let a = k .args in
-    let is = of-mapping (k .pre .0) (s .singles-of .ensures) (p .pairs-of .ensures) _ _ (e .element-at .ensures) in
-    omega (arith, size-step (now (a .words)) (a .set) (now (a .bytes)) (l .loop .i) (t .loop-test .taken) is .1)
+    let k = s .before .before .before .before in
+    omega (arith, next-inside (k .pre .0) (s .singles-of .ensures) (p .pairs-of .ensures) (k .args .set) (now (k .args .bytes)) (l .loop .i) (e .element-at .ensures) (t .loop-test .taken) .1)
 
 loop-less : tie.Need-loop-less Inv-loop μ-loop
 loop-less c =
     let e = c .before .before .before .before .before in let t = e .before in let l = t .before in let p = l .before .before in let s = p .before in
-    let k = s .before .before .before .before in let a = k .args in
-    let is = of-mapping (k .pre .0) (s .singles-of .ensures) (p .pairs-of .ensures) _ _ (e .element-at .ensures) in
-    let size = size-step (now (a .words)) (a .set) (now (a .bytes)) (l .loop .i) (t .loop-test .taken) is in
+    let k = s .before .before .before .before in
+    let size = next-inside (k .pre .0) (s .singles-of .ensures) (p .pairs-of .ensures) (k .args .set) (now (k .args .bytes)) (l .loop .i) (e .element-at .ensures) (t .loop-test .taken) in
     omega (arith, size .0, size .1)
 
 loop-again : tie.Need-loop-again Inv-loop μ-loop

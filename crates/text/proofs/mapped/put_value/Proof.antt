@@ -10,7 +10,7 @@ use Rattle.sectors.specs.FillLaws.{fill-more, length-fill}
 use Rattle.text.specs.Utf8.{utf8, blanked}
 use Rattle.text.specs.Mapping.{doubleBase}
 use Rattle.text.specs.Element.{valueText}
-use Rattle.text.specs.MappedLaws.{value-one, value-two}
+use Rattle.text.specs.ElementLaws.{value-one, value-two}
 use borrow.Author.Needs.{needs}
 use Rattle.text.proofs.mapped.put_value.Statement.{statement}
 use Rattle.text.proofs.mapped.put_value.Tie as tie
@@ -46,7 +46,7 @@ module _ (doubles : List ℕ) (value at : ℕ) (page : List ℕ) (big : doubleBa
 put-character-requires : tie.Need-put-character-requires
 put-character-requires c κs =
     let k = c .before in let s = k .before .before .before in let a = s .args in
-    (omega (arith, s .pre .1, ap length (value-one (now (a .doubles)) (a .value) (k .if1 .taken))), s .pre .0 .point (k .if1 .taken))
+    (omega (arith, s .pre .1, ap length (value-one (now (a .doubles)) (a .value) (k .if1 .taken))), omega (arith, s .pre .0 .point (k .if1 .taken)))
 
 same-length : tie.Need-same-length
 same-length c = search needs
@@ -74,7 +74,7 @@ shared-slice-read-put-character c =
 put-character-requires-2 : tie.Need-put-character-requires-2
 put-character-requires-2 c κs =
     let k = c .before .before in let s = k .before .before .before in let a = s .args in
-    (first-fits (now (a .doubles)) (a .value) (a .at) (now (a .page)) (k .if1 .left) (s .pre .1), s .pre .0 .first (k .if1 .left))
+    (first-fits (now (a .doubles)) (a .value) (a .at) (now (a .page)) (k .if1 .left) (s .pre .1), omega (arith, s .pre .0 .first (k .if1 .left)))
 
 add-put-character : tie.Need-add-put-character
 add-put-character c = search needs
@@ -90,7 +90,7 @@ shared-slice-read-put-character-2 c =
 put-character-requires-3 : tie.Need-put-character-requires-3
 put-character-requires-3 c κs =
     let p = c .before .before .before .before in let k = p .before .before .before in let s = k .before .before .before in let a = s .args in
-    (second-fits (now (a .doubles)) (a .value) (a .at) (now (a .page)) (k .if1 .left) (s .pre .1) (p .put-character2 .ensures), s .pre .0 .second (k .if1 .left))
+    (second-fits (now (a .doubles)) (a .value) (a .at) (now (a .page)) (k .if1 .left) (s .pre .1) (p .put-character2 .ensures), omega (arith, s .pre .0 .second (k .if1 .left)))
 
 same-length-2 : tie.Need-same-length-2
 same-length-2 c = search needs

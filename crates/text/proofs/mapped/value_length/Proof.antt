@@ -1,13 +1,13 @@
 -- `text::mapped::value_length` meets its contract: of a double both code points count. Assumes nothing.
 use mathlib.Core.Path.{sym, ap, _∙_}
-use Prim.Native.Nat.{ℕ, _+_, _*_, _-_}
+use Prim.Native.Nat.{_+_, _*_, _-_}
 use native.Mathlib.Omega.{arith}
 use denote.Ref.{now}
 use lib.ListN.{length, getD, length-append}
 use Rattle.text.specs.Utf8.{utf8, blanked}
 use Rattle.text.specs.Utf8Laws.{utf8-length}
 use Rattle.text.specs.Mapping.{doubleBase}
-use Rattle.text.specs.MappedLaws.{value-one, value-two}
+use Rattle.text.specs.ElementLaws.{value-one, value-two}
 use borrow.Author.Needs.{needs}
 use Rattle.text.proofs.mapped.value_length.Statement.{statement}
 use Rattle.text.proofs.mapped.value_length.Tie as tie

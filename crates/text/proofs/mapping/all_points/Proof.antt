@@ -1,12 +1,12 @@
 -- `text::mapping::all_points` meets its contract: the words passed and those to come. Assumes nothing.
 use mathlib.Core.Path.{_≡_, refl, sym, ap, _∙_}
-use mathlib.Core.Bool.{Bool, true, false, _&&_, and-true}
-use Prim.Native.Nat.{ℕ, _+_, _-_, _≤_}
+use mathlib.Core.Bool.{Bool, _&&_, and-true}
+use Prim.Native.Nat.{_+_, _-_, _≤_}
 use native.Mathlib.Omega.{arith}
 use denote.Ref.{now}
-use lib.ListN.{length, getD, drop}
+use lib.ListN.{length, drop}
 use borrow.Author.Needs.{needs}
-use Rattle.text.specs.Mapping.{isPoint, allPoints}
+use Rattle.text.specs.Mapping.{allPoints}
 use Rattle.text.specs.MappingLaws.{points-next, points-end}
 use Rattle.text.proofs.mapping.all_points.Statement.{statement}
 use Rattle.text.proofs.mapping.all_points.Tie as tie

@@ -1,10 +1,10 @@
 -- `text::mapping::entries_at` meets its contract: the end is as far behind the count as that says. Assumes nothing.
-use mathlib.Core.Path.{_≡_, refl, sym, ap, _∙_}
-use Prim.Native.Nat.{ℕ, _+_, _*_, _-_, _≤_}
+use mathlib.Core.Path.{ap, _∙_}
+use Prim.Native.Nat.{ℕ, _+_, _*_, _-_}
 use native.Mathlib.Omega.{arith}
 use denote.Ref.{now}
-use lib.ListN.{length, take, drop}
-use Rattle.sectors.specs.Fill.{part}
+use lib.ListN.{take, drop}
+use Rattle.sectors.specs.FillLaws.{slice-part}
 use Rattle.text.specs.Mapping.{countAt, behind, entriesAt}
 use Rattle.text.specs.MappingLaws.{behind-more}
 use borrow.Author.Needs.{needs}
@@ -27,11 +27,10 @@ part-result-end : tie.Need-part-result-end
 part-result-end c = search needs
 
 returns : tie.Need-returns
-unfolding entriesAt behind part
+unfolding entriesAt behind
 returns c =
-    let a = c .before .args in let words = now (a .words) in let at = a .at in let end = a .end in
-    let size : end - (at + 1) ≡ 2 * countAt words at = omega (arith, c .before .pre .0) in
-    ap (λ (n : ℕ). take n (drop (at + 1) words)) size
+    let k = c .before in let words = now (k .args .words) in let at = k .args .at in
+    ap (λ (end : ℕ). take (end - (at + 1)) (drop (at + 1) words)) (k .pre .0) ∙ slice-part (at + 1) (2 * countAt words at) words
 
 pub entries-at-spec : {M : Type 1} → statement M
 entries-at-spec =

@@ -1,25 +1,25 @@
 -- `text::mapping::entries_sound` meets its contract: the entries passed and those to come. Assumes nothing.
-use mathlib.Core.Path.{_≡_, refl, sym, ap, _∙_}
-use mathlib.Core.Bool.{Bool, true, false, _&&_, and-true}
-use Prim.Native.Nat.{ℕ, _+_, _-_, _≤_}
+use mathlib.Core.Path.{_≡_, sym, ap, _∙_}
+use mathlib.Core.Bool.{Bool, _&&_, and-true}
+use Prim.Native.Nat.{_+_, _-_, _≤_}
 use native.Mathlib.Omega.{arith}
 use denote.Ref.{now}
-use lib.Dec.{leb, ltb}
+use lib.Dec.{ltb}
 use lib.ListN.{length, getD, drop, length-drop}
 use borrow.Author.Needs.{needs}
-use Rattle.text.specs.Mapping.{isValue, entriesSound}
+use Rattle.text.specs.Mapping.{entriesSound}
 use Rattle.text.specs.MappingLaws.{above-is, sound-start, sound-next, sound-end}
 use Rattle.text.proofs.mapping.entries_sound.Statement.{statement}
 use Rattle.text.proofs.mapping.entries_sound.Tie as tie
 
 abbrev Inv-loop : tie.InvT-loop
-Inv-loop entries width doubles before₀ sound₀ i₀ before sound i = (i ≤ length entries) × ((sound && entriesSound width doubles (before + 1) (drop i entries)) ≡ entriesSound width doubles 0 entries)
+Inv-loop entries width count before₀ sound₀ i₀ before sound i = (i ≤ length entries) × ((sound && entriesSound width count (before + 1) (drop i entries)) ≡ entriesSound width count 0 entries)
 
 abbrev μ-loop : tie.MeasureT-loop
-μ-loop entries width doubles before₀ sound₀ i₀ before sound i = length entries - i
+μ-loop entries width count before₀ sound₀ i₀ before sound i = length entries - i
 
 returns : tie.Need-returns Inv-loop μ-loop
-returns c = let a = c .before .before .args in sym (sound-end (a .width) (a .doubles) (now (a .entries)) (omega arith) 0)
+returns c = let a = c .before .before .args in sym (sound-end (a .width) (a .count) (now (a .entries)) (omega arith) 0)
 
 shared-slice-read-before : tie.Need-shared-slice-read-before Inv-loop μ-loop
 shared-slice-read-before c = omega arith
@@ -33,7 +33,7 @@ is-value-requires c κs = search needs
 loop-holds : tie.Need-loop-holds Inv-loop μ-loop
 loop-holds c =
     let a = c .before .before .before .before .before .args in let entries = now (a .entries) in
-    (omega arith, (λ i. ltb (getD entries 0 0) (a .width) && c .is-value .ensures i && entriesSound (a .width) (a .doubles) (getD entries 0 0 + 1) (drop 2 entries)) ∙ sound-start (a .width) (a .doubles) entries (omega arith))
+    (omega arith, (λ i. ltb (getD entries 0 0) (a .width) && c .is-value .ensures i && entriesSound (a .width) (a .count) (getD entries 0 0 + 1) (drop 2 entries)) ∙ sound-start (a .width) (a .count) entries (omega arith))
 
 add-loop : tie.Need-add-loop Inv-loop μ-loop
 add-loop c = omega arith
@@ -67,8 +67,8 @@ loop-again c =
     let k = c .before .before .before .before in let a = k .before .before .before .before .before .before .args in let entries = now (a .entries) in let l = k .loop in
     let key = getD entries (l .i) 0 in (
       omega arith,
-      (λ i. l .sound && (above-is (l .before) key i && ltb key (a .width) && c .is-value2 .ensures i) && entriesSound (a .width) (a .doubles) (key + 1) (drop (l .i + 2) entries))
-          ∙ sym (sound-next (a .width) (a .doubles) entries (l .i) (omega arith) (l .before + 1) (l .sound))
+      (λ i. l .sound && (above-is (l .before) key i && ltb key (a .width) && c .is-value2 .ensures i) && entriesSound (a .width) (a .count) (key + 1) (drop (l .i + 2) entries))
+          ∙ sym (sound-next (a .width) (a .count) entries (l .i) (omega arith) (l .before + 1) (l .sound))
           ∙ l .inv .1,
     )
 
@@ -77,7 +77,7 @@ returns-2 c =
     let l = c .before .loop in let a = c .before .before .before .before .before .before .before .args in let entries = now (a .entries) in
     let rest = drop (l .i) entries in
     sym (and-true (l .sound))
-    ∙ ap (λ (t : Bool). l .sound && t) (sym (sound-end (a .width) (a .doubles) rest (omega (arith, length-drop (l .i) entries)) (l .before + 1)))
+    ∙ ap (λ (t : Bool). l .sound && t) (sym (sound-end (a .width) (a .count) rest (omega (arith, length-drop (l .i) entries)) (l .before + 1)))
     ∙ l .inv .1
 
 pub entries-sound-spec : {M : Type 1} → statement M
