@@ -3,3 +3,5 @@ pub mod CardLaws
 pub mod Example
 pub mod ExampleLaws
 pub mod LoneOrder
+pub mod Mapping
+pub mod MappingLaws
