@@ -18,12 +18,10 @@ use disc_values::reading::decode_track_text_by_value;
 use libc::STDOUT_FILENO;
 use sectors::fnv::digest;
 use text::decode::DecodeAnswer;
+use text::decode::NO_MAPPING;
 
 // A page that has room for every text: 4,096 characters of at most two bytes.
 const TEXT_PAGE: usize = 8192;
-
-// A mapping of no words.
-const NO_MAPPING: [u32; 0] = [];
 
 // Writes the line of a text that is there: its item index, the refusal, the length and the digest.
 fn put_text(item: u32, answer: DecodeAnswer, page: &[u8]) {

@@ -22,6 +22,9 @@ pub struct DecodeAnswer {
     pub len: usize,
 }
 
+// What a caller without a mapping lends.
+pub const NO_MAPPING: [u32; 0] = [];
+
 // Whether every byte is ASCII; every byte is looked at.
 fn is_ascii(bytes: &[u8]) -> bool
     ensures { λ r. ⌜ r ≡ isAscii (now (bytes .entry)) ⌝ }

@@ -1,9 +1,9 @@
 // Cards of the areas: frame numbers, the play time, and the largest table, written one to a line.
-use crate::NO_MAPPING;
 use area::timecode::Frame;
 use area::timecode::Timecode;
 use libc::STDOUT_FILENO;
 use sectors::sector::Lsn;
+use text::decode::NO_MAPPING;
 
 // A line of the frame number of a timecode.
 fn frame_line(minutes: u8, seconds: u8, frames: u8) {

@@ -12,9 +12,6 @@ use sectors::header::audit_answer;
 use sectors::run::read_sectors;
 use sectors::sector::Lsn;
 
-// A mapping of no words.
-pub(crate) const NO_MAPPING: [u32; 0] = [];
-
 // A line of a digest, as 16 hexadecimal digits, and the text that it is of.
 fn digest_line(text: &[u8]) {
     io::print_hex(STDOUT_FILENO, sectors::fnv::digest(text), 16);

@@ -1,6 +1,6 @@
 // Cards of the texts: sets, decoding, fixed fields, languages and stored strings, written one to a line.
-use crate::NO_MAPPING;
 use libc::STDOUT_FILENO;
+use text::decode::NO_MAPPING;
 
 // A line of the set of a code.
 fn charset_line(code: u8) {
