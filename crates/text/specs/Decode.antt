@@ -28,11 +28,13 @@ unfoldable pub mappedOf : List ℕ → ℕ → List ℕ → Decoded
 mappedOf words set bytes =
     cond (eqb (length words) 0) (refused setNotHeld) (cond (isMapping words) (gives (mappedPoints words set bytes)) (refused badMapping))
 
--- "An absent text answers length 0 in every set and never meets 9.": nor 12. "3 to 6 are the four tables ..", by the lent words; "all others Latin-1",
--- without a look at them
+-- "An absent text answers length 0 in every set and never meets 9.": nor 12
+unfoldable pub unlessAbsent : List ℕ → Decoded → Decoded
+unlessAbsent bytes given = cond (present bytes) given (gives [])
+
+-- "3 to 6 are the four tables ..", by the lent words; "all others Latin-1", without a look at them
 unfoldable pub pointsOf : List ℕ → ℕ → List ℕ → Decoded
-pointsOf bytes code words =
-    cond (present bytes) (cond (isMapped (setOf code)) (mappedOf words (setOf code) bytes) (gives (latin1Points bytes))) (gives [])
+pointsOf bytes code words = unlessAbsent bytes (cond (isMapped (setOf code)) (mappedOf words (setOf code) bytes) (gives (latin1Points bytes)))
 
 -- the answer of a refusal, and of a text of so many bytes
 unfoldable pub refusing : ℕ → DecodeAnswer

@@ -11,13 +11,14 @@ use Rattle.sectors.specs.Fill.{fill}
 use Rattle.sectors.specs.FillLaws.{fill-none, length-fill}
 use Rattle.text.specs.Refusal.{setNotHeld, shortPage, badMapping}
 use Rattle.text.specs.String.{present}
-use Rattle.text.specs.Charset.{setOf, isMapped}
+use Rattle.text.specs.Charset.{setOf, isMapped, latin1, charsetOf}
+use Rattle.text.specs.CharsetLaws.{charset-mapped, latin1-unmapped, not-latin1-mapped}
 use Rattle.text.specs.Mapping.{allPoints, isMapping}
 use Rattle.text.specs.Mapped.{mappedPoints}
 use Rattle.text.specs.MappedLaws.{bytes-sound, text-most, text-some, mapped-sound}
 use Rattle.text.specs.Utf8.{encoded}
 use Rattle.text.specs.Utf8Laws.{encoded-none, encoded-length, latin1-length}
-use Rattle.text.specs.Decode.{Decoded, refused, gives, latin1Points, mappedOf, pointsOf, refusing, giving, answerIn, pageWith, decodeOf, decodeInto}
+use Rattle.text.specs.Decode.{Decoded, refused, gives, latin1Points, mappedOf, unlessAbsent, pointsOf, refusing, giving, answerIn, pageWith, decodeOf, decodeInto}
 use Rattle.text.specs.declared.decode.DecodeAnswer.{DecodeAnswer}
 
 -- the answers' fields
@@ -61,6 +62,16 @@ unfoldable refusal-number : Decoded → ℕ
 refusal-number (refused number) = suc number
 refusal-number (gives points) = zero
 
+-- what an absent text gives, and a present one
+module _ (bytes : List ℕ) (given : Decoded) where
+  pub absent-is : length bytes ≡ 0 → unlessAbsent bytes given ≡ gives []
+  unfolding unlessAbsent present
+  absent-is none = simp (le-ltb 0 (length bytes) (omega arith))
+
+  pub present-is : 0 < length bytes → unlessAbsent bytes given ≡ given
+  unfolding unlessAbsent present
+  present-is some = simp (lt-ltb 0 (length bytes) some)
+
 -- a present text of set 3 to 6: by whether words are lent, and are a mapping
 module _ (words : List ℕ) (set : ℕ) (bytes : List ℕ) where
   pub mapped-none : length words ≡ 0 → mappedOf words set bytes ≡ refused setNotHeld
@@ -76,25 +87,47 @@ module _ (words : List ℕ) (set : ℕ) (bytes : List ℕ) where
     unfolding mappedOf
     mapped-good e = simp (ne-eqb (length words) 0 some, e)
 
+-- no code points: nothing is written
+pub answer-none : (size : ℕ) → answerIn size (gives []) ≡ giving 0
+answer-none size = let n = ap length encoded-none in answer-fits [] size (omega arith) ∙ ap giving n
+
+pub page-none : (page : List ℕ) → pageWith (gives []) page ≡ page
+page-none page =
+    let n = ap length encoded-none in
+    page-fits [] page (omega arith) ∙ ap (λ (t : List ℕ). fill 0 t page) encoded-none ∙ fill-none 0 page
+
 module _ (bytes : List ℕ) (code : ℕ) (words : List ℕ) where
   -- an absent text has no code points
-  pub points-absent : length bytes ≡ 0 → pointsOf bytes code words ≡ gives []
-  unfolding pointsOf present
-  points-absent none = simp (le-ltb 0 (length bytes) (omega arith))
+  points-absent : length bytes ≡ 0 → pointsOf bytes code words ≡ gives []
+  unfolding pointsOf
+  points-absent none = absent-is bytes _ none
 
   -- a present one of set 3 to 6 goes by the mapping
-  pub points-mapped : 0 < length bytes → isMapped (setOf code) ≡ true → pointsOf bytes code words ≡ mappedOf words (setOf code) bytes
-  unfolding pointsOf present
-  points-mapped is-present mapped = simp (lt-ltb 0 (length bytes) is-present, mapped)
+  points-by-set : isMapped (setOf code) ≡ true → pointsOf bytes code words ≡ unlessAbsent bytes (mappedOf words (setOf code) bytes)
+  unfolding pointsOf
+  points-by-set mapped = simp mapped
+
+  points-mapped : 0 < length bytes → isMapped (setOf code) ≡ true → pointsOf bytes code words ≡ mappedOf words (setOf code) bytes
+  points-mapped is-present mapped = points-by-set mapped ∙ present-is bytes _ is-present
 
   -- in Latin-1 each byte is its own code point
-  pub points-latin1 : isMapped (setOf code) ≡ false → pointsOf bytes code words ≡ gives bytes
-  unfolding pointsOf present latin1Points
+  points-latin1 : isMapped (setOf code) ≡ false → pointsOf bytes code words ≡ gives bytes
+  unfolding pointsOf unlessAbsent present latin1Points
   points-latin1 e = go bytes
     where
       go : (bytes : List ℕ) → pointsOf bytes code words ≡ gives bytes
       go [] = refl
       go (x ∷ xs) = simp (lt-ltb 0 (length (x ∷ xs)) (omega arith), e)
+
+  -- both by the set that the code names
+  module _ {set : ℕ} (named : set ≡ charsetOf code) where
+    pub points-other : (set ≡ latin1 → ⊥) → pointsOf bytes code words ≡ unlessAbsent bytes (mappedOf words set bytes)
+    points-other other =
+        let mapped = not-latin1-mapped code (λ z. other (named ∙ z)) in
+        points-by-set mapped ∙ ap (λ (n : ℕ). unlessAbsent bytes (mappedOf words n bytes)) (sym (charset-mapped code mapped) ∙ sym named)
+
+    pub points-held : set ≡ latin1 → pointsOf bytes code words ≡ gives bytes
+    points-held is = points-latin1 (latin1-unmapped code (sym named ∙ is))
 
   -- the answer and the page are those of what the string gives
   module _ {d : Decoded} (e : pointsOf bytes code words ≡ d) where
@@ -118,14 +151,10 @@ module _ (bytes : List ℕ) (code : ℕ) (words : List ℕ) where
 
   -- "An absent text answers length 0 in every set and never meets 9.": nor 12, nor 10
   pub decode-absent : length bytes ≡ 0 → (size : ℕ) → decodeOf bytes code words size ≡ giving 0
-  decode-absent none size =
-      let n = ap length encoded-none in
-      decode-by (points-absent none) size ∙ answer-fits [] size (omega arith) ∙ ap giving n
+  decode-absent none size = decode-by (points-absent none) size ∙ answer-none size
 
   pub into-absent : length bytes ≡ 0 → (page : List ℕ) → decodeInto bytes code words page ≡ page
-  into-absent none page =
-      let n = ap length encoded-none in
-      into-by (points-absent none) page ∙ page-fits [] page (omega arith) ∙ ap (λ (t : List ℕ). fill 0 t page) encoded-none ∙ fill-none 0 page
+  into-absent none page = into-by (points-absent none) page ∙ page-none page
 
   -- The cases of decoding into a page of so many bytes.
   pub data Case (size : ℕ) : Type 0 where
@@ -178,7 +207,7 @@ module _ (bytes : List ℕ) (code : ℕ) (words : List ℕ) where
   -- The cases of what a string gives.
   pub data Source : Type 0 where
     absent : length bytes ≡ 0 → pointsOf bytes code words ≡ gives [] → Source
-    latin1 : isMapped (setOf code) ≡ false → pointsOf bytes code words ≡ gives bytes → Source
+    of-latin1 : isMapped (setOf code) ≡ false → pointsOf bytes code words ≡ gives bytes → Source
     no-words : 0 < length bytes → isMapped (setOf code) ≡ true → length words ≡ 0 → pointsOf bytes code words ≡ refused setNotHeld → Source
     no-mapping : 0 < length bytes → isMapped (setOf code) ≡ true → (length words ≡ 0 → ⊥) → isMapping words ≡ false → pointsOf bytes code words ≡ refused badMapping
         → Source
@@ -200,7 +229,7 @@ module _ (bytes : List ℕ) (code : ℕ) (words : List ℕ) where
 
       of-set : 0 < length bytes → (t : Bool) → isMapped (setOf code) ≡ t → Source
       of-set is-present true m = of-words is-present m (eqb (length words) 0) refl
-      of-set is-present false m = latin1 m (points-latin1 m)
+      of-set is-present false m = of-latin1 m (points-latin1 m)
 
       of-bytes : (n : ℕ) → length bytes ≡ n → Source
       of-bytes zero z = absent z (points-absent z)
@@ -213,7 +242,7 @@ module _ (bytes : List ℕ) (code : ℕ) (words : List ℕ) where
     where
       go : Source → ⊥
       go (absent none is) = omega (arith, ap refusal-number (sym e ∙ is))
-      go (latin1 m is) = omega (arith, ap refusal-number (sym e ∙ is))
+      go (of-latin1 m is) = omega (arith, ap refusal-number (sym e ∙ is))
       go (no-words is-present m none is) = omega (arith, ap refusal-number (sym e ∙ is))
       go (no-mapping is-present m some bad is) = omega (arith, ap refusal-number (sym e ∙ is))
       go (by-mapping good is) = omega (arith, ap refusal-number (sym e ∙ is))
@@ -244,7 +273,7 @@ module _ (bytes : List ℕ) (code : ℕ) (words : List ℕ) where
 
       go : Source → (0 < length bytes) × (isMapped (setOf code) ≡ true) × (length words ≡ 0)
       go (absent none is) = absurd (omega (arith, ap refusal-number (sym e ∙ is)))
-      go (latin1 m is) = absurd (omega (arith, ap refusal-number (sym e ∙ is)))
+      go (of-latin1 m is) = absurd (omega (arith, ap refusal-number (sym e ∙ is)))
       go (no-words is-present m none is) = (is-present, m, none)
       go (no-mapping is-present m some bad is) = absurd (omega (arith, ap refusal-number (sym e ∙ is)))
       go (by-mapping good is) = absurd (omega (arith, ap refusal-number (sym e ∙ is)))
@@ -265,7 +294,7 @@ module _ (bytes : List ℕ) (code : ℕ) (words : List ℕ) where
 
       go : Source → (0 < length bytes) × (isMapped (setOf code) ≡ true) × (length words ≡ 0 → ⊥) × (isMapping words ≡ false)
       go (absent none is) = absurd (omega (arith, ap refusal-number (sym e ∙ is)))
-      go (latin1 m is) = absurd (omega (arith, ap refusal-number (sym e ∙ is)))
+      go (of-latin1 m is) = absurd (omega (arith, ap refusal-number (sym e ∙ is)))
       go (no-words is-present m none is) = absurd (omega (arith, ap refusal-number (sym e ∙ is)))
       go (no-mapping is-present m some bad is) = (is-present, m, some, bad)
       go (by-mapping good is) = absurd (omega (arith, ap refusal-number (sym e ∙ is)))
@@ -304,7 +333,7 @@ module _ (bytes : List ℕ) (code : ℕ) (words : List ℕ) where
 
       go : Source → (0 < length bytes → 0 < length (encoded points)) × (length (encoded points) ≤ 8 * length bytes)
       go (absent none is) = (λ h. absurd (omega arith), omega (arith, ap length encoded-none, same is))
-      go (latin1 m is) = let n = encoded-length bytes in (λ h. omega (arith, n .0, same is), omega (arith, n .1, same is))
+      go (of-latin1 m is) = let n = encoded-length bytes in (λ h. omega (arith, n .0, same is), omega (arith, n .1, same is))
       go (no-words is-present m none is) = absurd (refuses is)
       go (no-mapping is-present m some bad is) = absurd (refuses is)
       go (by-mapping good is) =
@@ -343,7 +372,7 @@ module _ (bytes : List ℕ) (code : ℕ) (words : List ℕ) where
 
       go : Source → allPoints points ≡ true
       go (absent none is) = ap allPoints (same is)
-      go (latin1 m is) = ap allPoints (same is) ∙ bytes-sound bytes small
+      go (of-latin1 m is) = ap allPoints (same is) ∙ bytes-sound bytes small
       go (no-words is-present m none is) = ap allPoints (same is)
       go (no-mapping is-present m some bad is) = ap allPoints (same is)
       go (by-mapping good is) = ap allPoints (same is) ∙ mapped-sound words good (setOf code) bytes
@@ -351,5 +380,5 @@ module _ (bytes : List ℕ) (code : ℕ) (words : List ℕ) where
 -- with no words all is as before mappings were lent
 pub points-no-words : (bytes : List ℕ) (code : ℕ)
     → pointsOf bytes code [] ≡ cond (present bytes) (cond (isMapped (setOf code)) (refused setNotHeld) (gives (latin1Points bytes))) (gives [])
-unfolding pointsOf mappedOf
+unfolding pointsOf unlessAbsent mappedOf
 points-no-words bytes code = refl

@@ -81,8 +81,8 @@ fn put_latin1(bytes: &[u8], page: &mut [u8])
     }
 }
 
-// Decodes Latin-1, in which each byte is its own code point.
-fn decode_latin1(bytes: &[u8], ascii: bool, page: &mut [u8]) -> DecodeAnswer
+// Decodes Latin-1, in which each byte is its own code point; the caller may know that they are ASCII.
+pub(crate) fn decode_latin1(bytes: &[u8], ascii: bool, page: &mut [u8]) -> DecodeAnswer
     requires { ⌜ (ascii ≡ true → isAscii (now bytes) ≡ true) ⌝ }
     ensures answer { λ r. ⌜ r ≡ answerIn (length (now (page .entry))) (gives (now (bytes .entry))) ⌝ }
     ensures filled { λ r. ⌜ now (page .exit) ≡ pageWith (gives (now (bytes .entry))) (now (page .entry)) ⌝ }
@@ -102,34 +102,15 @@ fn decode_latin1(bytes: &[u8], ascii: bool, page: &mut [u8]) -> DecodeAnswer
     DecodeAnswer { refusal: 0, len }
 }
 
-// Decodes a string's bytes, of the set that a code names, to the start of a page, those of sets 3 to 6 by a mapping; the caller may know that they
-// are ASCII.
-pub(crate) fn decode_known(
-    bytes: &[u8],
-    ascii: bool,
-    code: u8,
-    mapping: &[u32],
-    page: &mut [u8],
-) -> DecodeAnswer
-    requires { ⌜ (ascii ≡ true → isAscii (now bytes) ≡ true) ⌝ }
-    ensures answer { λ r. ⌜ r ≡ decodeOf (now (bytes .entry)) code (now (mapping .entry)) (length (now (page .entry))) ⌝ }
-    ensures filled { λ r. ⌜ now (page .exit) ≡ decodeInto (now (bytes .entry)) code (now (mapping .entry)) (now (page .entry)) ⌝ }
-{
-    if bytes.len() == 0 {
-        return DecodeAnswer { refusal: 0, len: 0 };
-    }
-    let set = charset(code);
-    if set != LATIN_1 {
-        return decode_mapped(bytes, set, mapping, page);
-    }
-    decode_latin1(bytes, ascii, page)
-}
-
-// Decodes a string's bytes, of the set that a code names, to the start of a page, those of sets 3 to 6 by a mapping. A refusal changes nothing. (The Rust's
-// `decode_string`; its own `decode` leaves controls as they are.)
+// Decodes a string's bytes, of the set that a code names, to the start of a page, those of sets 3 to 6 by a mapping. A refusal changes nothing. (The
+// Rust's `decode_string`; its own `decode` leaves controls as they are.)
 pub fn decode(bytes: &[u8], code: u8, mapping: &[u32], page: &mut [u8]) -> DecodeAnswer
     ensures answer { λ r. ⌜ r ≡ decodeOf (now (bytes .entry)) code (now (mapping .entry)) (length (now (page .entry))) ⌝ }
     ensures filled { λ r. ⌜ now (page .exit) ≡ decodeInto (now (bytes .entry)) code (now (mapping .entry)) (now (page .entry)) ⌝ }
 {
-    decode_known(bytes, is_ascii(bytes), code, mapping, page)
+    let set = charset(code);
+    if set != LATIN_1 {
+        return decode_mapped(bytes, set, mapping, page);
+    }
+    decode_latin1(bytes, is_ascii(bytes), page)
 }

@@ -4,7 +4,7 @@ ghost use Prim.Native.Nat.{_+_, _≤_};
 ghost use lib.Dec.{leb};
 ghost use lib.ListN.{length};
 ghost use Rattle.sectors.specs.Fill.{fill};
-ghost use Rattle.text.specs.Decode.{mappedOf, answerIn, pageWith};
+ghost use Rattle.text.specs.Decode.{mappedOf, unlessAbsent, answerIn, pageWith};
 ghost use Rattle.text.specs.Element.{HasPoints, valueText, mappedText};
 ghost use Rattle.text.specs.Parts.{MappingAt};
 ghost use Rattle.text.specs.Utf8.{utf8, blanked};
@@ -119,11 +119,14 @@ fn put_mapped(bytes: &[u8], set: u8, words: &[u32], parts: Parts, page: &mut [u8
     len
 }
 
-// Decodes a string of set 3 to 6 by a mapping.
+// Decodes a string of set 3 to 6 by a mapping; an absent one without a look at it.
 pub(crate) fn decode_mapped(bytes: &[u8], set: u8, words: &[u32], page: &mut [u8]) -> DecodeAnswer
-    ensures answer { λ r. ⌜ r ≡ answerIn (length (now (page .entry))) (mappedOf (now (words .entry)) set (now (bytes .entry))) ⌝ }
-    ensures filled { λ r. ⌜ now (page .exit) ≡ pageWith (mappedOf (now (words .entry)) set (now (bytes .entry))) (now (page .entry)) ⌝ }
+    ensures answer { λ r. ⌜ r ≡ answerIn (length (now (page .entry))) (unlessAbsent (now (bytes .entry)) (mappedOf (now (words .entry)) set (now (bytes .entry)))) ⌝ }
+    ensures filled { λ r. ⌜ now (page .exit) ≡ pageWith (unlessAbsent (now (bytes .entry)) (mappedOf (now (words .entry)) set (now (bytes .entry)))) (now (page .entry)) ⌝ }
 {
+    if bytes.len() == 0 {
+        return DecodeAnswer { refusal: 0, len: 0 };
+    }
     if words.len() == 0 {
         return DecodeAnswer {
             refusal: SET_NOT_HELD,

@@ -5,8 +5,11 @@ ghost use Rattle.text.specs.Ascii.{isStoredAscii};
 ghost use Rattle.text.specs.Decode.{decodeOf, decodeInto};
 ghost use Rattle.text.specs.String.{stringAt, placedString};
 ghost use Rattle.text.specs.While.{takeWhile};
+use crate::charset::LATIN_1;
+use crate::charset::charset;
 use crate::decode::DecodeAnswer;
-use crate::decode::decode_known;
+use crate::decode::decode_latin1;
+use crate::mapped::decode_mapped;
 use crate::string::string_bytes;
 use crate::string::string_window;
 use sectors::number::byte_at;
@@ -32,7 +35,7 @@ fn ascii_in(bytes: &[u8]) -> usize
     i
 }
 
-// Decodes the string at a place of a table: the end of an ASCII string is found in one pass; one that is not ASCII is sought anew.
+// Decodes the string at a place of a table. In Latin-1 the end of an ASCII string is found in one pass; one that is not ASCII is sought anew.
 fn decode_stored(
     table: &[u8],
     place: usize,
@@ -43,12 +46,16 @@ fn decode_stored(
     ensures answer { λ r. ⌜ r ≡ decodeOf (stringAt (now (table .entry)) place) code (now (mapping .entry)) (length (now (page .entry))) ⌝ }
     ensures filled { λ r. ⌜ now (page .exit) ≡ decodeInto (stringAt (now (table .entry)) place) code (now (mapping .entry)) (now (page .entry)) ⌝ }
 {
+    let set = charset(code);
+    if set != LATIN_1 {
+        return decode_mapped(string_bytes(table, place), set, mapping, page);
+    }
     let window = string_window(table, place);
     let n = ascii_in(window);
     if byte_at(window, n) == 0 {
-        return decode_known(&window[..n], true, code, mapping, page);
+        return decode_latin1(&window[..n], true, page);
     }
-    decode_known(string_bytes(table, place), false, code, mapping, page)
+    decode_latin1(string_bytes(table, place), false, page)
 }
 
 // Decodes the text whose string a record places in a table, 0 for an absent one, to the start of a page. A refusal changes nothing.

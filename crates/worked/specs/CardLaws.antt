@@ -16,7 +16,7 @@ use Rattle.sectors.specs.Fill.{fill}
 use Rattle.sectors.specs.Header.{SixBytes, atOne, atAlpha, isMultiple, isBlank, isSound}
 use Rattle.sectors.specs.HeaderLaws.{decides}
 use Rattle.text.specs.Charset.{latin1, setOf, isMapped, charsetOf}
-use Rattle.text.specs.Decode.{latin1Points, pointsOf, giving, answerIn, pageWith, decodeOf, decodeInto}
+use Rattle.text.specs.Decode.{latin1Points, unlessAbsent, pointsOf, giving, answerIn, pageWith, decodeOf, decodeInto}
 use Rattle.text.specs.String.{present}
 use Rattle.text.specs.Utf8.{groups, marked, utf8, blanked, encoded}
 use Rattle.area.specs.Cap.{exceeds, capped, uncapped, capOf}
@@ -26,7 +26,7 @@ use Rattle.worked.specs.Cards.{Card, frameCard, capCard, byteCard, chars
 
 cards-pass : allPass cards ≡ true
 unfolding
-    cards alike sameTimes decodesTo areBytes passes allPass frameNumber exceeds capped uncapped capOf latin1Points pointsOf giving answerIn pageWith decodeOf decodeInto present groups marked utf8 blanked encoded flatMap fill same setOf isMapped charsetOf _⊕_ timesAlpha atOne atAlpha isMultiple isBlank isSound verdictOf
+    cards alike sameTimes decodesTo areBytes passes allPass frameNumber exceeds capped uncapped capOf latin1Points unlessAbsent pointsOf giving answerIn pageWith decodeOf decodeInto present groups marked utf8 blanked encoded flatMap fill same setOf isMapped charsetOf _⊕_ timesAlpha atOne atAlpha isMultiple isBlank isSound verdictOf
 cards-pass = refl
 
 -- ---- a card whose test passes holds
