@@ -100,10 +100,10 @@ impl<'a> Area<'a> {
     pub fn text(&self, item: AreaTextItem) -> Result<Option<String>, Refusal> {
         decoded(|page| match self.lent {
             Lent::Disc { work, .. } => {
-                calls::decode_disc_area_text(work, self.record, item.index(), page)
+                calls::decode_disc_area_text(work, self.record, item.index(), &[], page)
             }
             Lent::Table { table, .. } => {
-                calls::decode_area_text(table, self.record, item.index(), page)
+                calls::decode_area_text(table, self.record, item.index(), &[], page)
             }
         })
     }
@@ -197,10 +197,10 @@ impl<'a> Track<'a> {
         let (area, number, item) = (self.area.record, self.record.number.into(), item.index());
         decoded(|page| match self.area.lent {
             Lent::Disc { work, tracks } => {
-                calls::decode_disc_track_text(work, area, tracks, number, item, page)
+                calls::decode_disc_track_text(work, area, tracks, number, item, &[], page)
             }
             Lent::Table { table, tracks } => {
-                calls::decode_track_text(table, area, tracks, number, item, page)
+                calls::decode_track_text(table, area, tracks, number, item, &[], page)
             }
         })
     }

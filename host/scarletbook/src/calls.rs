@@ -82,6 +82,8 @@ unsafe extern "C" {
         bytes: *const u8,
         bytes_len: usize,
         code: u8,
+        mapping: *const u32,
+        mapping_len: usize,
         page: *mut u8,
         page_len: usize,
     ) -> DecodeAnswer;
@@ -101,6 +103,8 @@ unsafe extern "C" {
         table_len: usize,
         area: Area,
         item: u32,
+        mapping: *const u32,
+        mapping_len: usize,
         page: *mut u8,
         page_len: usize,
     ) -> DecodeAnswer;
@@ -113,6 +117,8 @@ unsafe extern "C" {
         tracks_len: usize,
         number: u32,
         item: u32,
+        mapping: *const u32,
+        mapping_len: usize,
         page: *mut u8,
         page_len: usize,
     ) -> DecodeAnswer;
@@ -140,6 +146,8 @@ unsafe extern "C" {
         work_len: usize,
         master: MasterToc,
         item: u32,
+        mapping: *const u32,
+        mapping_len: usize,
         page: *mut u8,
         page_len: usize,
     ) -> DecodeAnswer;
@@ -148,6 +156,8 @@ unsafe extern "C" {
         work_len: usize,
         area: Area,
         item: u32,
+        mapping: *const u32,
+        mapping_len: usize,
         page: *mut u8,
         page_len: usize,
     ) -> DecodeAnswer;
@@ -160,6 +170,8 @@ unsafe extern "C" {
         tracks_len: usize,
         number: u32,
         item: u32,
+        mapping: *const u32,
+        mapping_len: usize,
         page: *mut u8,
         page_len: usize,
     ) -> DecodeAnswer;
@@ -337,13 +349,26 @@ pub fn charset(code: u8) -> u8 {
     scarletbook_charset(code)
 }
 
-/// Decodes a string's bytes, of the set that `code` names, to UTF-8 at the start of `page`;
-/// bytes below 32 become a blank. No bytes give length 0 in every set. Refused, in this order
-/// and with `page` left as it was: 9 for set 3 to 6, 10 when the text is longer than `page`.
+/// Decodes a string's bytes, of the set that `code` names, to UTF-8 at the start of `page`; code
+/// points below 32 become a blank. No bytes give length 0 in every set. Sets 3 to 6 are decoded by the
+/// mapping whose words are lent (see `include/scarletbook.h`), all of which is checked in each
+/// call; Latin-1 without a look at it. Refused, in this order and with `page` left as it was: 9 for
+/// bytes of set 3 to 6 without a word of a mapping, 12 for bytes of these sets with words that are no
+/// mapping, 10 when the text is longer than `page`.
 #[inline]
-pub fn decode(bytes: &[u8], code: u8, page: &mut [u8]) -> DecodeAnswer {
-    // SAFETY: both pointers and lengths are those of slices; `page` overlaps nothing.
-    unsafe { scarletbook_decode(bytes.as_ptr(), bytes.len(), code, page.as_mut_ptr(), page.len()) }
+pub fn decode(bytes: &[u8], code: u8, mapping: &[u32], page: &mut [u8]) -> DecodeAnswer {
+    // SAFETY: pointers and lengths are those of slices; `page` overlaps nothing.
+    unsafe {
+        scarletbook_decode(
+            bytes.as_ptr(),
+            bytes.len(),
+            code,
+            mapping.as_ptr(),
+            mapping.len(),
+            page.as_mut_ptr(),
+            page.len(),
+        )
+    }
 }
 
 /// The bytes of a field up to the first zero byte. Of a field longer than 16 bytes the first 16
@@ -389,10 +414,16 @@ pub fn read_table(table: &[u8], tracks: &mut [Track], words: &mut [u32]) -> Tabl
 
 /// Decodes the text of an area, by its item from 0, from its lone table, to the start of `page`.
 /// Nothing in the record is trusted. Refused, in this order and with `page` left as it was: 2 for
-/// a table shorter than the record's sectors (above 128 as 128), 8 for no area or no such item, 9
+/// a table shorter than the record's sectors (above 128 as 128), 8 for no area or no such item, 9, 12
 /// and 10 as by [`decode`]. An absent text has length 0.
 #[inline]
-pub fn decode_area_text(table: &[u8], area: &Area, item: u32, page: &mut [u8]) -> DecodeAnswer {
+pub fn decode_area_text(
+    table: &[u8],
+    area: &Area,
+    item: u32,
+    mapping: &[u32],
+    page: &mut [u8],
+) -> DecodeAnswer {
     // SAFETY: pointers and lengths are those of slices; `page` overlaps nothing.
     unsafe {
         scarletbook_decode_area_text(
@@ -400,6 +431,8 @@ pub fn decode_area_text(table: &[u8], area: &Area, item: u32, page: &mut [u8]) -
             table.len(),
             *area,
             item,
+            mapping.as_ptr(),
+            mapping.len(),
             page.as_mut_ptr(),
             page.len(),
         )
@@ -415,6 +448,7 @@ pub fn decode_track_text(
     tracks: &[Track],
     number: u32,
     item: u32,
+    mapping: &[u32],
     page: &mut [u8],
 ) -> DecodeAnswer {
     let (front, back) = in_parts(area);
@@ -429,6 +463,8 @@ pub fn decode_track_text(
             tracks.len(),
             number,
             item,
+            mapping.as_ptr(),
+            mapping.len(),
             page.as_mut_ptr(),
             page.len(),
         )
@@ -488,13 +524,14 @@ pub fn read_disc(
 
 /// Decodes the text of a disc, by its item from 0, from the work bytes of a read, to the start of
 /// `page`. Nothing in the record is trusted. Refused, in this order and with `page` left as it was:
-/// 2 for fewer than 544,768 work bytes, 8 for no such item, 9 and 10 as by [`decode`]. An
+/// 2 for fewer than 544,768 work bytes, 8 for no such item, 9, 12 and 10 as by [`decode`]. An
 /// absent text has length 0.
 #[inline]
 pub fn decode_disc_text(
     work: &[u8],
     master: &MasterToc,
     item: u32,
+    mapping: &[u32],
     page: &mut [u8],
 ) -> DecodeAnswer {
     // SAFETY: pointers and lengths are those of slices; `page` overlaps nothing.
@@ -504,6 +541,8 @@ pub fn decode_disc_text(
             work.len(),
             *master,
             item,
+            mapping.as_ptr(),
+            mapping.len(),
             page.as_mut_ptr(),
             page.len(),
         )
@@ -513,7 +552,13 @@ pub fn decode_disc_text(
 /// The same for the text of an area, whose slot names its region; 8 also for no area or a slot
 /// other than 1 and 2.
 #[inline]
-pub fn decode_disc_area_text(work: &[u8], area: &Area, item: u32, page: &mut [u8]) -> DecodeAnswer {
+pub fn decode_disc_area_text(
+    work: &[u8],
+    area: &Area,
+    item: u32,
+    mapping: &[u32],
+    page: &mut [u8],
+) -> DecodeAnswer {
     // SAFETY: pointers and lengths are those of slices; `page` overlaps nothing.
     unsafe {
         scarletbook_decode_disc_area_text(
@@ -521,6 +566,8 @@ pub fn decode_disc_area_text(work: &[u8], area: &Area, item: u32, page: &mut [u8
             work.len(),
             *area,
             item,
+            mapping.as_ptr(),
+            mapping.len(),
             page.as_mut_ptr(),
             page.len(),
         )
@@ -536,6 +583,7 @@ pub fn decode_disc_track_text(
     tracks: &[Track],
     number: u32,
     item: u32,
+    mapping: &[u32],
     page: &mut [u8],
 ) -> DecodeAnswer {
     let (front, back) = in_parts(area);
@@ -550,6 +598,8 @@ pub fn decode_disc_track_text(
             tracks.len(),
             number,
             item,
+            mapping.as_ptr(),
+            mapping.len(),
             page.as_mut_ptr(),
             page.len(),
         )

@@ -143,7 +143,7 @@ impl<'m> Disc<'m> {
 
     /// One of its texts, if there is one. Refused by 9 if its set is not held.
     pub fn text(&self, item: DiscTextItem) -> Result<Option<String>, Refusal> {
-        decoded(|page| calls::decode_disc_text(&self.work, self.master(), item.index(), page))
+        decoded(|page| calls::decode_disc_text(&self.work, self.master(), item.index(), &[], page))
     }
 
     /// How one of its texts ended, if there is one, also if its set is not held.

@@ -6,8 +6,9 @@ use std::fmt::{self, Write};
 
 /// The bytes of data in a sector.
 pub const SECTOR_SIZE: usize = 2048;
-/// A page of so many bytes has room for every text: 4,096 characters of two bytes each.
-pub const PAGE_BYTES: usize = 8192;
+/// A page of so many bytes has room for every text: 4,096 bytes, each of which gives at most 8, which are two code points of
+/// four bytes each. Latin-1 gives at most two for each.
+pub const PAGE_BYTES: usize = 32_768;
 /// The track records that [`read_table`](crate::raw::read_table) and [`decode_track_text`](crate::raw::decode_track_text) are lent at least.
 pub const MAX_TRACKS: usize = 255;
 /// The warning words that [`read_table`](crate::raw::read_table) is lent at least.

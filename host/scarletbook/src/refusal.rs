@@ -23,12 +23,14 @@ pub enum Refusal {
     OddTable = 7,
     /// A sector is not in the image, or there is no such track, item or area.
     NoSuchEntry = 8,
-    /// The text is of set 3, 4, 5 or 6, whose mappings are not held.
+    /// The text is of set 3, 4, 5 or 6, and no mapping of its set is lent.
     SetNotHeld = 9,
     /// The decoded text is longer than the lent page.
     ShortPage = 10,
     /// Sectors of this format have no header.
     NoHeader = 11,
+    /// The text is of set 3, 4, 5 or 6, and the words lent for its set are no mapping.
+    BadMapping = 12,
     /// No correct header differs from this one in at most one place.
     BeyondMending = 14,
     /// The two buffers are not of equal length.
@@ -37,7 +39,7 @@ pub enum Refusal {
 
 impl Refusal {
     /// Every refusal, by number.
-    pub const ALL: [Refusal; 13] = [
+    pub const ALL: [Refusal; 14] = [
         Refusal::ForeignFormat,
         Refusal::ShortBuffer,
         Refusal::CutMaster,
@@ -49,11 +51,12 @@ impl Refusal {
         Refusal::SetNotHeld,
         Refusal::ShortPage,
         Refusal::NoHeader,
+        Refusal::BadMapping,
         Refusal::BeyondMending,
         Refusal::UnequalLengths,
     ];
 
-    /// Its number, 1 to 11, 14 or 20.
+    /// Its number, 1 to 12, 14 or 20.
     pub fn number(self) -> u8 {
         self as u8
     }
@@ -72,6 +75,7 @@ impl Refusal {
             Refusal::SetNotHeld => "set not held",
             Refusal::ShortPage => "short page",
             Refusal::NoHeader => "no header",
+            Refusal::BadMapping => "bad mapping",
             Refusal::BeyondMending => "beyond mending",
             Refusal::UnequalLengths => "unequal lengths",
         }
