@@ -3,18 +3,32 @@
 use crate::calls;
 use crate::end::TextEnd;
 use crate::item::{AreaTextItem, TrackTextItem};
+use crate::mapping::Mappings;
 use crate::record;
 use crate::refusal::Refusal;
 use std::fmt;
 use std::ops::Deref;
 
-/// The text that a decoding call puts on a page: nothing for an absent one, refused by 9 where a
-/// text is there whose set is not held.
+/// A page that has room for every text of Latin-1, and for one of any set of up to 1,024 bytes.
+const SHORT_PAGE: usize = 8192;
+
+/// The text that a decoding call gives: nothing for an absent one, refused by 9 or 12 where a text is
+/// there that cannot be decoded. A page for every text is made only for one that needs it.
 pub(crate) fn decoded(
-    decode: impl FnOnce(&mut [u8]) -> record::DecodeAnswer,
+    decode: impl Fn(&mut [u8]) -> record::DecodeAnswer,
 ) -> Result<Option<String>, Refusal> {
-    let mut page = [0; record::PAGE_BYTES];
-    let answer = decode(&mut page);
+    match decoded_on(&mut [0; SHORT_PAGE], &decode) {
+        Err(Refusal::ShortPage) => decoded_on(&mut vec![0; record::PAGE_BYTES], &decode),
+        decoded => decoded,
+    }
+}
+
+/// The text that a decoding call puts on a page.
+fn decoded_on(
+    page: &mut [u8],
+    decode: impl Fn(&mut [u8]) -> record::DecodeAnswer,
+) -> Result<Option<String>, Refusal> {
+    let answer = decode(page);
     Refusal::check(answer.refusal)?;
     let text = str::from_utf8(&page[..answer.len]).expect("decoding gives UTF-8");
     Ok((!text.is_empty()).then(|| text.to_owned()))
@@ -38,8 +52,10 @@ pub(crate) enum Lent<'a> {
 /// An area; its fields are those of [`record::Area`].
 #[derive(Clone, Copy)]
 pub struct Area<'a> {
-    pub(crate) record: &'a record::Area,
-    pub(crate) lent: Lent<'a>,
+    record: &'a record::Area,
+    lent: Lent<'a>,
+    /// The words of the mapping for its set, which is that of its tracks too.
+    mapping: &'a [u32],
 }
 
 /// Its record.
@@ -58,6 +74,10 @@ impl Deref for Area<'_> {
 }
 
 impl<'a> Area<'a> {
+    pub(crate) fn new(record: &'a record::Area, lent: Lent<'a>, mappings: Mappings<'a>) -> Self {
+        Area { record, lent, mapping: mappings.of(record.text_charset) }
+    }
+
     /// The slot it came from, 1 or 2.
     pub fn slot(&self) -> u8 {
         self.record.origin.slot
@@ -96,19 +116,19 @@ impl<'a> Area<'a> {
         self.tracks().find(|track| track.number == number)
     }
 
-    /// One of its texts, if there is one. Refused by 9 if its set is not held.
+    /// One of its texts, if there is one. Refused by 9 if it is of set 3 to 6 and no mapping of its set
+    /// is lent, by 12 if the words lent for its set are no mapping.
     pub fn text(&self, item: AreaTextItem) -> Result<Option<String>, Refusal> {
+        let (area, item, mapping) = (self.record, item.index(), self.mapping);
         decoded(|page| match self.lent {
             Lent::Disc { work, .. } => {
-                calls::decode_disc_area_text(work, self.record, item.index(), &[], page)
+                calls::decode_disc_area_text(work, area, item, mapping, page)
             }
-            Lent::Table { table, .. } => {
-                calls::decode_area_text(table, self.record, item.index(), &[], page)
-            }
+            Lent::Table { table, .. } => calls::decode_area_text(table, area, item, mapping, page),
         })
     }
 
-    /// How one of its texts ended, if there is one, also if its set is not held.
+    /// How one of its texts ended, if there is one, also if it cannot be decoded.
     ///
     /// ```
     /// # mod small_disc { include!(concat!(env!("CARGO_MANIFEST_DIR"), "/examples/small_disc.rs")); }
@@ -192,20 +212,22 @@ impl<'a> Track<'a> {
         (self.record.has_genre == 1).then_some(self.record.genre)
     }
 
-    /// One of its texts, if there is one. Refused by 9 if its set is not held.
+    /// One of its texts, if there is one. Refused by 9 if it is of set 3 to 6 and no mapping of its set
+    /// is lent, by 12 if the words lent for its set are no mapping.
     pub fn text(&self, item: TrackTextItem) -> Result<Option<String>, Refusal> {
-        let (area, number, item) = (self.area.record, self.record.number.into(), item.index());
-        decoded(|page| match self.area.lent {
+        let (number, item) = (self.record.number.into(), item.index());
+        let Area { record: area, lent, mapping } = self.area;
+        decoded(|page| match lent {
             Lent::Disc { work, tracks } => {
-                calls::decode_disc_track_text(work, area, tracks, number, item, &[], page)
+                calls::decode_disc_track_text(work, area, tracks, number, item, mapping, page)
             }
             Lent::Table { table, tracks } => {
-                calls::decode_track_text(table, area, tracks, number, item, &[], page)
+                calls::decode_track_text(table, area, tracks, number, item, mapping, page)
             }
         })
     }
 
-    /// How one of its texts ended, if there is one, also if its set is not held. A track with a text
+    /// How one of its texts ended, if there is one, also if it cannot be decoded. A track with a text
     /// that ended otherwise than by a zero byte has the warning
     /// [`TrackTextUnterminated`](crate::WarningCode::TrackTextUnterminated), once.
     ///

@@ -351,7 +351,7 @@ pub fn charset(code: u8) -> u8 {
 
 /// Decodes a string's bytes, of the set that `code` names, to UTF-8 at the start of `page`; code
 /// points below 32 become a blank. No bytes give length 0 in every set. Sets 3 to 6 are decoded by the
-/// mapping whose words are lent (see `include/scarletbook.h`), all of which is checked in each
+/// mapping whose words are lent (see [`Mappings`](crate::Mappings)), all of which is checked in each
 /// call; Latin-1 without a look at it. Refused, in this order and with `page` left as it was: 9 for
 /// bytes of set 3 to 6 without a word of a mapping, 12 for bytes of these sets with words that are no
 /// mapping, 10 when the text is longer than `page`.

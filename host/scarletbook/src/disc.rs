@@ -4,6 +4,7 @@ use crate::area::{Area, Lent, decoded, present};
 use crate::calls;
 use crate::end::TextEnd;
 use crate::item::DiscTextItem;
+use crate::mapping::Mappings;
 use crate::record::{self, REGIONS, SECTOR_SIZE, TRACK_RECORDS, WARNING_WORDS, WORK_BYTES};
 use crate::refusal::{Refusal, Refused};
 use crate::warning::Warning;
@@ -30,6 +31,7 @@ pub struct Disc<'m> {
     work: Cow<'m, [u8]>,
     tracks: Cow<'m, [record::Track]>,
     words: Cow<'m, [u32]>,
+    mappings: Mappings<'m>,
 }
 
 /// Without its memory.
@@ -62,7 +64,7 @@ impl Disc<'static> {
         let mut tracks = vec![record::Track::default(); TRACK_RECORDS];
         let mut words = vec![0; WARNING_WORDS];
         let answer = calls::read_disc(format, image, &mut work, &mut tracks, &mut words);
-        Disc { answer, work: work.into(), tracks: tracks.into(), words: words.into() }.checked()
+        Disc::checked(answer, work, tracks, words)
     }
 }
 
@@ -93,18 +95,46 @@ impl<'m> Disc<'m> {
         let Memory { work, tracks, words } = memory;
         let answer = calls::read_disc(format, image, work, tracks, words);
         let (work, tracks, words): (&[u8], &[record::Track], &[u32]) = (work, tracks, words);
-        Disc { answer, work: work.into(), tracks: tracks.into(), words: words.into() }.checked()
+        Disc::checked(answer, work, tracks, words)
     }
 
     /// The disc, or why it was refused; 6 keeps what was read.
-    fn checked(self) -> Result<Self, Refused<Self>> {
-        match Refusal::check(self.answer.refusal) {
-            Ok(()) => Ok(self),
+    fn checked(
+        answer: record::DiscAnswer,
+        work: impl Into<Cow<'m, [u8]>>,
+        tracks: impl Into<Cow<'m, [record::Track]>>,
+        words: impl Into<Cow<'m, [u32]>>,
+    ) -> Result<Self, Refused<Self>> {
+        let (work, tracks, words) = (work.into(), tracks.into(), words.into());
+        let disc = Disc { answer, work, tracks, words, mappings: Mappings::new() };
+        match Refusal::check(answer.refusal) {
+            Ok(()) => Ok(disc),
             Err(refusal) => {
-                let silent = (refusal == Refusal::NoArea).then(|| Box::new(self));
+                let silent = (refusal == Refusal::NoArea).then(|| Box::new(disc));
                 Err(Refused { refusal, silent })
             }
         }
+    }
+
+    /// The same disc, with mappings by which its texts of sets 3 to 6, and those of its areas and
+    /// tracks, are decoded: see [`Mappings`]. They take the place of any that were lent before.
+    ///
+    /// ```
+    /// # mod small_disc { include!(concat!(env!("CARGO_MANIFEST_DIR"), "/examples/small_disc.rs")); }
+    /// # let mut image = small_disc::plain();
+    /// # small_disc::put_in(&mut image, 510, 138, &[6]);
+    /// # small_disc::put_in(&mut image, 511, 1024, b"\xa4\xa4 1\0");
+    /// use scarletbook::{Disc, DiscTextItem, Mappings};
+    ///
+    /// // In `image` is a disc whose texts are of set 6: its album is A4 A4 20 31.
+    /// let big5 = [2, 0x20, 0x20, 0x31, 0x31, 1, 0xa4a4, 0x4e2d, 0];
+    /// let mappings = Mappings::new().with(6, &big5)?;
+    /// let disc = Disc::read(0u32, &image)?.with_mappings(mappings);
+    /// assert_eq!(disc.text(DiscTextItem::AlbumTitle)?.as_deref(), Some("中 1"));
+    /// # Ok::<(), scarletbook::Refusal>(())
+    /// ```
+    pub fn with_mappings(self, mappings: Mappings<'m>) -> Self {
+        Disc { mappings, ..self }
     }
 
     /// The master record.
@@ -126,7 +156,8 @@ impl<'m> Disc<'m> {
     pub fn areas(&self) -> impl Iterator<Item = Area<'_>> {
         let lent = Lent::Disc { work: &self.work, tracks: &self.tracks };
         let areas = [&self.answer.two_channel, &self.answer.multichannel].into_iter();
-        areas.filter(|area| area.present == 1).map(move |record| Area { record, lent })
+        let areas = areas.filter(|area| area.present == 1);
+        areas.map(move |record| Area::new(record, lent, self.mappings))
     }
 
     /// The area of a slot, 1 or 2.
@@ -141,12 +172,15 @@ impl<'m> Disc<'m> {
             .map(|&word| Warning::from_word(word).expect("a word of the library"))
     }
 
-    /// One of its texts, if there is one. Refused by 9 if its set is not held.
+    /// One of its texts, if there is one. Refused by 9 if it is of set 3 to 6 and no mapping of its set
+    /// is lent, by 12 if the words lent for its set are no mapping.
     pub fn text(&self, item: DiscTextItem) -> Result<Option<String>, Refusal> {
-        decoded(|page| calls::decode_disc_text(&self.work, self.master(), item.index(), &[], page))
+        let (master, item) = (self.master(), item.index());
+        let mapping = self.mappings.of(master.text_charset);
+        decoded(|page| calls::decode_disc_text(&self.work, master, item, mapping, page))
     }
 
-    /// How one of its texts ended, if there is one, also if its set is not held.
+    /// How one of its texts ended, if there is one, also if it cannot be decoded.
     ///
     /// ```
     /// # mod small_disc { include!(concat!(env!("CARGO_MANIFEST_DIR"), "/examples/small_disc.rs")); }

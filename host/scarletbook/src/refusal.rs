@@ -21,7 +21,8 @@ pub enum Refusal {
     NoArea = 6,
     /// The table has 0 bytes, over 262,144 or no multiple of 2,048.
     OddTable = 7,
-    /// A sector is not in the image, or there is no such track, item or area.
+    /// A sector is not in the image, or there is no such track, item or area; of
+    /// [`Mappings`](crate::Mappings), no such set.
     NoSuchEntry = 8,
     /// The text is of set 3, 4, 5 or 6, and no mapping of its set is lent.
     SetNotHeld = 9,
@@ -151,6 +152,11 @@ impl<T> Refused<T> {
     /// What refusal 6 has, by value.
     pub fn into_silent(self) -> Option<T> {
         self.silent.map(|silent| *silent)
+    }
+
+    /// The same refusal, with a change made to what refusal 6 has.
+    pub fn map(self, change: impl FnOnce(T) -> T) -> Self {
+        Refused { silent: self.silent.map(|silent| Box::new(change(*silent))), ..self }
     }
 }
 

@@ -3,6 +3,7 @@
 use crate::area::{Area, Lent};
 use crate::calls;
 use crate::end::TextEnd;
+use crate::mapping::Mappings;
 use crate::record::{self, MAX_TRACKS, TABLE_WORDS};
 use crate::refusal::{Refusal, Refused};
 use crate::warning::Warning;
@@ -17,6 +18,7 @@ pub struct Table<'m> {
     table: &'m [u8],
     tracks: Cow<'m, [record::Track]>,
     words: Cow<'m, [u32]>,
+    mappings: Mappings<'m>,
 }
 
 /// Without its memory.
@@ -44,7 +46,7 @@ impl<'m> Table<'m> {
         let mut tracks = vec![record::Track::default(); MAX_TRACKS];
         let mut words = vec![0; TABLE_WORDS];
         let answer = calls::read_table(table, &mut tracks, &mut words);
-        Table { answer, table, tracks: tracks.into(), words: words.into() }.checked()
+        Table::checked(answer, table, tracks, words)
     }
 
     /// Reads a table into memory that is lent: refused by 2 with fewer than 255 track records or
@@ -56,24 +58,51 @@ impl<'m> Table<'m> {
     ) -> Result<Self, Refused<Self>> {
         let answer = calls::read_table(table, tracks, words);
         let (tracks, words): (&[record::Track], &[u32]) = (tracks, words);
-        Table { answer, table, tracks: tracks.into(), words: words.into() }.checked()
+        Table::checked(answer, table, tracks, words)
     }
 
     /// The table, or why it was refused; 6 keeps its warnings.
-    fn checked(self) -> Result<Self, Refused<Self>> {
-        match Refusal::check(self.answer.refusal) {
-            Ok(()) => Ok(self),
+    fn checked(
+        answer: record::TableAnswer,
+        table: &'m [u8],
+        tracks: impl Into<Cow<'m, [record::Track]>>,
+        words: impl Into<Cow<'m, [u32]>>,
+    ) -> Result<Self, Refused<Self>> {
+        let (tracks, words) = (tracks.into(), words.into());
+        let table = Table { answer, table, tracks, words, mappings: Mappings::new() };
+        match Refusal::check(answer.refusal) {
+            Ok(()) => Ok(table),
             Err(refusal) => {
-                let silent = (refusal == Refusal::NoArea).then(|| Box::new(self));
+                let silent = (refusal == Refusal::NoArea).then(|| Box::new(table));
                 Err(Refused { refusal, silent })
             }
         }
     }
 
+    /// The same table, with mappings by which its texts of sets 3 to 6, and those of its tracks, are
+    /// decoded: see [`Mappings`]. They take the place of any that were lent before.
+    ///
+    /// ```
+    /// # mod small_disc { include!(concat!(env!("CARGO_MANIFEST_DIR"), "/examples/small_disc.rs")); }
+    /// # let bytes = small_disc::area_table(b"TWOCHTOC", 4, &[b"\xb0\xa1"], 7);
+    /// use scarletbook::{Mappings, Table, TrackTextItem};
+    ///
+    /// // In `bytes` is a table whose texts are of set 4: the title of its track is B0 A1.
+    /// let euc_kr = [0, 1, 0xb0a1, 0xac00, 0];
+    /// let table = Table::read(&bytes)?.with_mappings(Mappings::new().with(4, &euc_kr)?);
+    /// let track = table.area().unwrap().track(1).unwrap();
+    /// assert_eq!(track.text(TrackTextItem::Title)?.as_deref(), Some("가"));
+    /// # Ok::<(), scarletbook::Refusal>(())
+    /// ```
+    pub fn with_mappings(self, mappings: Mappings<'m>) -> Self {
+        Table { mappings, ..self }
+    }
+
     /// Its area; nothing after refusal 6.
     pub fn area(&self) -> Option<Area<'_>> {
         let lent = Lent::Table { table: self.table, tracks: &self.tracks };
-        (self.answer.area.present == 1).then_some(Area { record: &self.answer.area, lent })
+        let area = || Area::new(&self.answer.area, lent, self.mappings);
+        (self.answer.area.present == 1).then(area)
     }
 
     /// The warnings, in order.
