@@ -3,7 +3,9 @@
 
 mod control;
 pub mod disc;
+pub mod lent;
 pub mod lone;
+pub mod mounts;
 mod read_at;
 
 #[path = "../rust/src/error.rs"]
@@ -18,6 +20,12 @@ pub mod image;
 #[rustfmt::skip]
 #[allow(dead_code, clippy::all)]
 pub mod log;
+// In front of text.rs, whose mappings this crate's callers lend at run time.
+macro_rules! include_str {
+    ($path:literal) => {
+        crate::lent::text(0, $path)
+    };
+}
 #[path = "../rust/src/text.rs"]
 #[rustfmt::skip]
 #[allow(dead_code, clippy::all)]
