@@ -411,16 +411,17 @@ fn numbers_and_words_of_refusals() {
         "set not held",
         "short page",
         "no header",
+        "bad mapping",
         "beyond mending",
         "unequal lengths",
     ];
     assert_eq!(Refusal::ALL.map(Refusal::word), words);
-    // 12, 13 and 15 to 19 are no refusals.
-    for (refusal, number) in Refusal::ALL.into_iter().zip((1..12).chain([14, 20])) {
+    // 13 and 15 to 19 are no refusals.
+    for (refusal, number) in Refusal::ALL.into_iter().zip((1..13).chain([14, 20])) {
         assert_eq!((refusal.number(), Refusal::of_number(number)), (number, Some(refusal)));
         assert_eq!(refusal.to_string(), format!("refused {number}: {}", refusal.word()));
     }
-    assert_eq!([0, 12, 13, 15, 19, 21, 255].map(Refusal::of_number), [None; 7]);
+    assert_eq!([0, 13, 15, 19, 21, 255].map(Refusal::of_number), [None; 6]);
 }
 
 #[test]

@@ -117,19 +117,26 @@ fn texts_are_decoded_by_their_places() {
     let (image, mut lent) = (image(&SECOND_COPY), lent());
     let answer = read(0, &image, &mut lent);
     let mut page = [0; 8];
-    assert_eq!(decode_disc_text(&lent.work, &answer.master, 8, &mut page).len, 7);
+    assert_eq!(decode_disc_text(&lent.work, &answer.master, 8, &[], &mut page).len, 7);
     assert_eq!(&page, b"Disc \xc3\xa9\0");
-    assert_eq!(decode_disc_text(&lent.work, &answer.master, 0, &mut page).len, 0);
-    let no_item = decode_disc_text(&lent.work, &answer.master, 16, &mut page);
+    assert_eq!(decode_disc_text(&lent.work, &answer.master, 0, &[], &mut page).len, 0);
+    let no_item = decode_disc_text(&lent.work, &answer.master, 16, &[], &mut page);
     assert_eq!(no_item.refusal, Refusal::NoSuchEntry.number());
-    assert_eq!(decode_disc_area_text(&lent.work, &answer.multichannel, 0, &mut page).len, 4);
+    assert_eq!(decode_disc_area_text(&lent.work, &answer.multichannel, 0, &[], &mut page).len, 4);
     assert_eq!(&page[..4], b"Area");
-    let no_area = decode_disc_area_text(&lent.work, &answer.two_channel, 0, &mut page);
+    let no_area = decode_disc_area_text(&lent.work, &answer.two_channel, 0, &[], &mut page);
     assert_eq!(no_area.refusal, Refusal::NoSuchEntry.number());
     for (number, item, refused) in [(1, 0, 0), (0, 0, 8), (2, 0, 8), (1, 14, 8)] {
         let Lent { work, tracks, .. } = &lent;
-        let answer =
-            decode_disc_track_text(work, &answer.multichannel, tracks, number, item, &mut page);
+        let answer = decode_disc_track_text(
+            work,
+            &answer.multichannel,
+            tracks,
+            number,
+            item,
+            &[],
+            &mut page,
+        );
         assert_eq!((answer.refusal, answer.len), (refused, 0));
     }
 }
@@ -146,10 +153,10 @@ fn short_lent_memory_is_refused() {
     let answer = read_disc(0u32, &image, work, tracks, words);
     let area = answer.multichannel;
     let short = DecodeAnswer { refusal: Refusal::ShortBuffer.number(), len: 0 };
-    assert_eq!(decode_disc_text(&work[1..], &answer.master, 16, &mut []), short);
-    assert_eq!(decode_disc_area_text(&work[1..], &area, 4, &mut []), short);
-    assert_eq!(decode_disc_track_text(&work[1..], &area, tracks, 0, 0, &mut []), short);
-    assert_eq!(decode_disc_track_text(work, &area, &tracks[1..], 0, 0, &mut []), short);
+    assert_eq!(decode_disc_text(&work[1..], &answer.master, 16, &[], &mut []), short);
+    assert_eq!(decode_disc_area_text(&work[1..], &area, 4, &[], &mut []), short);
+    assert_eq!(decode_disc_track_text(&work[1..], &area, tracks, 0, 0, &[], &mut []), short);
+    assert_eq!(decode_disc_track_text(work, &area, &tracks[1..], 0, 0, &[], &mut []), short);
 }
 
 #[test]

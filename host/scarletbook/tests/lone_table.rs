@@ -107,11 +107,11 @@ fn texts_are_decoded_by_their_places() {
     assert_eq!((answer.area.text[0].place, lent.tracks[0].text[0].place), (6750, 6750));
     let mut page = [9; 10];
     let text = DecodeAnswer { refusal: 0, len: 8 };
-    assert_eq!(decode_area_text(&table, &answer.area, 0, &mut page), text);
+    assert_eq!(decode_area_text(&table, &answer.area, 0, &[], &mut page), text);
     assert_eq!(&page, b"Title \xc3\xa9\x09\x09");
     let decode = |number, item, page: &mut [u8]| {
         let DecodeAnswer { refusal, len } =
-            decode_track_text(&table, &answer.area, &lent.tracks, number, item, page);
+            decode_track_text(&table, &answer.area, &lent.tracks, number, item, &[], page);
         (refusal, len)
     };
     assert_eq!(decode(1, 0, &mut page[..8]), (0, 8));
@@ -129,7 +129,7 @@ fn records_are_not_trusted() {
     let decode = |change: fn(&mut Area)| {
         let mut area = answer.area;
         change(&mut area);
-        decode_track_text(&table, &area, &lent.tracks, 1, 0, &mut [0; 8]).refusal
+        decode_track_text(&table, &area, &lent.tracks, 1, 0, &[], &mut [0; 8]).refusal
     };
     assert_eq!(decode(|area| area.origin.toc_sectors = 129), Refusal::ShortBuffer.number());
     assert_eq!(decode(|area| area.origin.toc_sectors = 0), 0);
@@ -141,7 +141,7 @@ fn records_are_not_trusted() {
     let mut tracks = lent.tracks;
     for end in [0, 2, 3, 255] {
         tracks[0].text[0].end = end;
-        let text = decode_track_text(&table, &answer.area, &tracks, 1, 0, &mut [0; 8]);
+        let text = decode_track_text(&table, &answer.area, &tracks, 1, 0, &[], &mut [0; 8]);
         assert_eq!(text, DecodeAnswer { refusal: 0, len: 8 });
     }
 }

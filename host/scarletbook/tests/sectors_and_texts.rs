@@ -183,10 +183,10 @@ fn code_8_is_latin_1_and_11_is_set_3() {
     assert_eq!([3, 4, 5, 6, 11, 254].map(charset), [3, 4, 5, 6, 3, 6]);
 }
 
-/// The answer of decoding into a page of nines, and the page.
+/// The answer of decoding without a mapping into a page of nines, and the page.
 fn decoded<const N: usize>(bytes: &[u8], code: u8) -> (DecodeAnswer, [u8; N]) {
     let mut page = [9; N];
-    (decode(bytes, code, &mut page), page)
+    (decode(bytes, code, &[], &mut page), page)
 }
 
 fn refused(refusal: u8) -> DecodeAnswer {
@@ -209,7 +209,7 @@ fn a_short_page_is_refused_and_stays() {
 }
 
 #[test]
-fn sets_3_to_6_are_refused_where_there_is_a_text() {
+fn sets_3_to_6_are_refused_where_there_is_a_text_and_no_mapping() {
     for code in [3, 4, 5, 6, 11] {
         assert_eq!(decoded(b"a", code), (refused(Refusal::SetNotHeld.number()), [9; 2]));
         assert_eq!(decoded(b"a", code), (refused(Refusal::SetNotHeld.number()), []));
