@@ -1,8 +1,11 @@
 //! The arguments of the command.
 
 use crate::commands::{Command, Form, LISTING, Task};
-use std::ffi::OsString;
+use std::ffi::{OsStr, OsString};
+use std::os::unix::ffi::OsStrExt;
 use std::path::PathBuf;
+
+const NEEDS_MAPPING: &str = "--mapping needs SET=FILE, SET 3, 4, 5 or 6";
 
 /// What is asked for.
 #[derive(Debug, PartialEq, Eq)]
@@ -18,6 +21,8 @@ pub struct Arguments {
     pub task: Task,
     /// Any number; the library refuses foreign ones.
     pub format: Option<u32>,
+    /// Sets, 3 to 6, and the files with their mappings; no set twice.
+    pub mappings: Vec<(u8, PathBuf)>,
     /// Those that the command takes; none if the sample disc is to stand in.
     pub files: Vec<PathBuf>,
 }
@@ -55,7 +60,8 @@ impl Request {
 impl Arguments {
     /// The arguments of a command, or what is wrong with them.
     fn parse(command: &'static Command, arguments: Vec<OsString>) -> Result<Self, String> {
-        let mut parsed = Arguments { command, task: command.task, format: None, files: vec![] };
+        let task = command.task;
+        let mut parsed = Arguments { command, task, format: None, mappings: vec![], files: vec![] };
         let mut rest = arguments.into_iter();
         let mut options = true;
         while let Some(argument) = rest.next() {
@@ -81,18 +87,19 @@ impl Arguments {
         rest: &mut impl Iterator<Item = OsString>,
     ) -> Result<(), String> {
         let (name, value) = match option.split_once('=') {
-            Some((name @ "--format", value)) => (name, Some(value.to_owned())),
+            Some((name @ ("--format" | "--mapping"), value)) => (name, Some(value.into())),
             _ => (option, None),
         };
         check_option(self.command, name)?;
+        let value = || value.or_else(|| rest.next());
         match name {
             "--dump" => self.set_form(Form::Dump),
             "--json" => self.set_form(Form::Json),
             "--format" => {
-                let next = || rest.next().map(|next| next.to_string_lossy().into_owned());
-                let number = value.or_else(next).ok_or("--format needs 0, 1 or 2")?;
-                self.set_format(&number)
+                let number = value().ok_or("--format needs 0, 1 or 2")?;
+                self.set_format(&number.to_string_lossy())
             }
+            "--mapping" => self.add_mapping(&value().ok_or(NEEDS_MAPPING)?),
             _ => unreachable!("every option of a command is set here"),
         }
     }
@@ -112,6 +119,18 @@ impl Arguments {
             None => Ok(()),
             Some(_) => Err("only one --format".to_owned()),
         }
+    }
+
+    fn add_mapping(&mut self, argument: &OsStr) -> Result<(), String> {
+        let (set, file) = match argument.as_bytes() {
+            [set @ b'3'..=b'6', b'=', file @ ..] if !file.is_empty() => (set - b'0', file),
+            _ => return Err(format!("{NEEDS_MAPPING}, not {}", argument.display())),
+        };
+        if self.mappings.iter().any(|(other, _)| *other == set) {
+            return Err(format!("only one --mapping of set {set}"));
+        }
+        self.mappings.push((set, OsStr::from_bytes(file).into()));
+        Ok(())
     }
 
     fn add_file(&mut self, file: OsString) -> Result<(), String> {
@@ -166,7 +185,14 @@ mod tests {
     fn run(task: Task, format: Option<u32>, files: &str) -> Result<Request, Wrong> {
         let command = COMMANDS.iter().find(|command| command.task == task).unwrap_or(&LISTING);
         let files = files.split_whitespace().map(PathBuf::from).collect();
-        Ok(Request::Run(Arguments { command, task, format, files }))
+        Ok(Request::Run(Arguments { command, task, format, mappings: vec![], files }))
+    }
+
+    /// A listing of an image by mappings.
+    fn listed_by(mappings: &[(u8, &str)]) -> Result<Request, Wrong> {
+        let mappings = mappings.iter().map(|(set, file)| (*set, file.into())).collect();
+        let (command, files) = (&LISTING, vec!["a".into()]);
+        Ok(Request::Run(Arguments { command, task: LISTED, format: None, mappings, files }))
     }
 
     #[test]
@@ -179,6 +205,15 @@ mod tests {
             run(Task::List(Form::Json), Some(u32::MAX), "a")
         );
         assert_eq!(parse("-- --dump"), run(LISTED, None, "--dump"));
+    }
+
+    #[test]
+    fn a_mapping_for_each_set() {
+        assert_eq!(parse("--mapping 3=b a"), listed_by(&[(3, "b")]));
+        assert_eq!(parse("a --mapping=6=b=c"), listed_by(&[(6, "b=c")]));
+        let four = [(4, "b"), (3, "b"), (6, "-c"), (5, "audit")];
+        let line = "--mapping 4=b --mapping 3=b a --mapping=6=-c --mapping 5=audit";
+        assert_eq!(parse(line), listed_by(&four));
     }
 
     #[test]
@@ -223,7 +258,8 @@ mod tests {
         for command in COMMANDS.iter().chain([&LISTING]) {
             let word = if command == &LISTING { "" } else { command.word };
             for option in command.options {
-                let parsed = parse(&format!("{word} {option} 0"));
+                let value = if *option == "--mapping" { "3=b" } else { "0" };
+                let parsed = parse(&format!("{word} {option} {value}"));
                 assert!(matches!(parsed, Ok(Request::Run(_))), "{word} {option}");
             }
         }
@@ -268,6 +304,14 @@ mod tests {
                 ("--format=-1 a", "--format needs 0, 1 or 2, not -1"),
                 ("--format 4294967296 a", "--format needs 0, 1 or 2, not 4294967296"),
                 ("--format 0 --format 0 a", "only one --format"),
+                ("a --mapping", "--mapping needs SET=FILE, SET 3, 4, 5 or 6"),
+                ("--mapping a", "--mapping needs SET=FILE, SET 3, 4, 5 or 6, not a"),
+                ("--mapping= a", "--mapping needs SET=FILE, SET 3, 4, 5 or 6, not "),
+                ("--mapping 3= a", "--mapping needs SET=FILE, SET 3, 4, 5 or 6, not 3="),
+                ("--mapping=2=b a", "--mapping needs SET=FILE, SET 3, 4, 5 or 6, not 2=b"),
+                ("--mapping 7=b a", "--mapping needs SET=FILE, SET 3, 4, 5 or 6, not 7=b"),
+                ("--mapping 33=b a", "--mapping needs SET=FILE, SET 3, 4, 5 or 6, not 33=b"),
+                ("--mapping 3=b --mapping=3=c a", "only one --mapping of set 3"),
                 ("a audit", "audit is a command, and stands first; a file: ./audit"),
                 ("--format 2 audit", "audit is a command, and stands first; a file: ./audit"),
             ],
@@ -276,6 +320,7 @@ mod tests {
             &COMMANDS[0],
             &[
                 ("audit --dump a", "audit has no option --dump"),
+                ("audit --mapping 3=b a", "audit has no option --mapping"),
                 ("audit a b", "only one image, not a and b"),
                 ("audit audit", "audit is a command, and stands first; a file: ./audit"),
                 (

@@ -37,7 +37,7 @@ pub struct Command {
 pub const LISTING: Command = Command {
     word: "tables",
     task: Task::List(Form::Listing),
-    options: &["--dump", "--json", "--format"],
+    options: &["--dump", "--json", "--format", "--mapping"],
     files: &["IMAGE"],
     help: include_str!("../help/tables.txt"),
 };

@@ -133,7 +133,7 @@ impl Fields for Dump {
             self.keyed(key, |out| match text {
                 Text::Absent => out.push('-'),
                 Text::Decoded(text) => hexadecimal(out, text.as_bytes()),
-                Text::NotHeld(_) => out.push_str("present"),
+                Text::NotHeld(_) | Text::BadMapping(_) => out.push_str("present"),
             });
         }
         self.prefix.truncate(prefix);

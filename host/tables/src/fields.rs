@@ -25,8 +25,10 @@ pub enum Value<'a> {
 pub enum Text {
     Absent,
     Decoded(String),
-    /// It is there, in a set that is not held.
+    /// It is there, in a set of which no mapping is held.
     NotHeld(u8),
+    /// It is there, and what is held for its set is no mapping.
+    BadMapping(u8),
 }
 
 impl Text {
@@ -35,6 +37,7 @@ impl Text {
         match decoded {
             Ok(None) => Text::Absent,
             Ok(Some(text)) => Text::Decoded(text),
+            Err(Refusal::BadMapping) => Text::BadMapping(charset(code)),
             Err(_) => Text::NotHeld(charset(code)),
         }
     }

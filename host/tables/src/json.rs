@@ -187,7 +187,7 @@ impl Fields for Json {
             match text {
                 Text::Absent => self.plain("null"),
                 Text::Decoded(text) => self.plain(quoted(&text)),
-                Text::NotHeld(set) => self.object(&[("set", &set)]),
+                Text::NotHeld(set) | Text::BadMapping(set) => self.object(&[("set", &set)]),
             }
         }
         self.close('}');

@@ -12,6 +12,7 @@ pub mod json;
 pub mod listing;
 #[allow(unsafe_code)]
 pub mod map;
+pub mod mapping;
 pub mod reading;
 pub mod report;
 pub mod sample;

@@ -193,6 +193,7 @@ fn shown(text: Text) -> String {
         Text::Absent => String::new(),
         Text::Decoded(text) => printable(&text),
         Text::NotHeld(set) => format!("(set {set}, not held)"),
+        Text::BadMapping(set) => format!("(set {set}, bad mapping)"),
     }
 }
 
@@ -327,8 +328,9 @@ mod tests {
     }
 
     #[test]
-    fn a_text_of_a_set_that_is_not_held_is_named() {
+    fn a_text_that_cannot_be_decoded_has_its_set_named() {
         assert_eq!(shown(Text::NotHeld(3)), "(set 3, not held)");
+        assert_eq!(shown(Text::BadMapping(6)), "(set 6, bad mapping)");
         assert_eq!(shown(Text::Absent), "");
         assert_eq!(shown(Text::Decoded("\u{1b}[2J".into())), "\u{fffd}[2J");
     }

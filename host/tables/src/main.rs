@@ -2,7 +2,7 @@
 
 #![deny(unsafe_code)]
 
-use scarletbook::{Disc, Refusal, SectorFormat, gather, scatter};
+use scarletbook::{Mappings, Refusal, SectorFormat, gather, scatter};
 use std::fs;
 use std::io::{self, ErrorKind, IsTerminal, Write};
 use std::path::{Path, PathBuf};
@@ -13,7 +13,8 @@ use tables::dump::dump_reading;
 use tables::json::json;
 use tables::listing::{listing, printable};
 use tables::map::Map;
-use tables::reading::Reading;
+use tables::mapping;
+use tables::reading::{self, Reading};
 use tables::report::{ERASE, Report, StandardReport, write_error};
 use tables::sample;
 use tables::sectors::Sectors;
@@ -78,7 +79,12 @@ impl Failure {
 }
 
 impl Answer {
-    /// Says why an image is refused.
+    /// Says why a file is refused; the exit status.
+    fn told(&self, path: &Path) -> u8 {
+        self.tell(path);
+        self.status()
+    }
+
     fn tell(&self, path: &Path) {
         let name = name(path);
         match self {
@@ -102,12 +108,31 @@ impl Answer {
 /// The exit status if nothing keeps the command from an answer.
 fn run(arguments: &Arguments) -> Result<u8, Failure> {
     match arguments.task {
-        Task::List(form) => read(arguments, |format, map| list(form, format, map)),
+        Task::List(form) => list_by_mappings(arguments, form),
         Task::Audit => read(arguments, |format, map| each_sector(format, map, audit)),
         Task::Fingerprints => read(arguments, |format, map| each_sector(format, map, fingerprints)),
         Task::Gather => rewrite(arguments, gather),
         Task::Scatter => rewrite(arguments, scatter),
     }
+}
+
+/// Lists an image, its texts of sets 3 to 6 by the mappings that were given. One that is no mapping is
+/// refused before the image is read.
+fn list_by_mappings(arguments: &Arguments, form: Form) -> Result<u8, Failure> {
+    let mut held = vec![];
+    for (set, path) in &arguments.mappings {
+        let words = mapping::read(path).map_err(|error| Failure::File(path.clone(), error))?;
+        held.push((*set, path, words));
+    }
+    let mut mappings = Mappings::new();
+    for (set, path, words) in &held {
+        let checked = mapping::check(*set, words).and_then(|()| mappings.with(*set, words));
+        mappings = match checked {
+            Ok(mappings) => mappings,
+            Err(refusal) => return Ok(Answer::Refused(refusal).told(path)),
+        };
+    }
+    read(arguments, |format, map| list(form, format, map, mappings))
 }
 
 /// Presents an image, or the sample disc, in the format that was given or is found.
@@ -122,8 +147,7 @@ fn read(
     let map = open(&path)?;
     let detected = || SectorFormat::detect(map.bytes()).map(SectorFormat::number);
     let answer = present(arguments.format.map_or_else(detected, Ok), &map)?;
-    answer.tell(&path);
-    Ok(answer.status())
+    Ok(answer.told(&path))
 }
 
 /// Writes a new file of what a call gives for the bytes of another.
@@ -143,9 +167,14 @@ fn open(path: &Path) -> Result<Map, Failure> {
     Ok(map)
 }
 
-fn list(form: Form, format: Result<u32, Refusal>, map: &Map) -> Result<Answer, Failure> {
+fn list(
+    form: Form,
+    format: Result<u32, Refusal>,
+    map: &Map,
+    mappings: Mappings,
+) -> Result<Answer, Failure> {
     let format = format.unwrap_or(SectorFormat::Plain.number());
-    let read = Disc::read(format, map.bytes());
+    let read = reading::read(format, map.bytes(), mappings);
     let reading = Reading::new(format, map.bytes(), &read);
     let text = match form {
         Form::Listing => listing(reading),

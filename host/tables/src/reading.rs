@@ -1,7 +1,20 @@
 //! What a reading gave.
 
 use scarletbook::raw::sector_count;
-use scarletbook::{Disc, Refusal, Refused};
+use scarletbook::{Disc, Mappings, Refusal, Refused};
+
+/// Reads an image in a format. The texts of the disc are decoded by mappings, those of one that yields no
+/// area too.
+pub fn read<'a>(
+    format: u32,
+    image: &[u8],
+    mappings: Mappings<'a>,
+) -> Result<Disc<'a>, Refused<Disc<'a>>> {
+    match Disc::read(format, image) {
+        Ok(disc) => Ok(disc.with_mappings(mappings)),
+        Err(refused) => Err(refused.map(|disc| disc.with_mappings(mappings))),
+    }
+}
 
 /// A disc, or why it was refused. Refusal 6 has both: a disc without areas.
 #[derive(Clone, Copy, Debug)]

@@ -10,7 +10,7 @@ use tables::commands::{COMMANDS, Command, LISTING};
 use tables::sample;
 
 const USAGE: &str = "\
-usage: tables [--dump | --json] [--format N] [IMAGE]
+usage: tables [--dump | --json] [--format N] [--mapping SET=FILE].. [IMAGE]
        tables COMMAND [ARGUMENTS]
 ";
 /// Where a field of the sample's master table stands.
