@@ -98,18 +98,19 @@ static void discs(void)
     CHECK(memcmp(work + SCARLETBOOK_MULTICHANNEL_REGION, "TWOCHTOC", 8) == 0);
     CHECK(memcmp(work + SCARLETBOOK_MASTER_REGION, "SACDMTOC", 8) == 0);
     scarletbook_decode_answer text =
-        scarletbook_decode_disc_text(work, sizeof work, disc.master, SCARLETBOOK_DISC_TITLE, page, sizeof page);
+        scarletbook_decode_disc_text(work, sizeof work, disc.master, SCARLETBOOK_DISC_TITLE, NULL, 0, page,
+                                     sizeof page);
     CHECK(text.refusal == 0 && text.len == 7 && memcmp(page, "Disc \303\251", 7) == 0);
     CHECK(is_text(disc.master.text[SCARLETBOOK_DISC_TITLE], 1024, SCARLETBOOK_ENDED_BY_ZERO_BYTE));
     CHECK(is_text(disc.master.text[SCARLETBOOK_ALBUM_TITLE], 0, 0));
     CHECK(is_text(disc.multichannel.text[SCARLETBOOK_AREA_DESCRIPTION], 1792, SCARLETBOOK_ENDED_BY_ZERO_BYTE));
     text = scarletbook_decode_disc_area_text(work, sizeof work, disc.multichannel, SCARLETBOOK_AREA_DESCRIPTION,
-                                             page, sizeof page);
+                                             NULL, 0, page, sizeof page);
     CHECK(text.refusal == 0 && text.len == 4 && memcmp(page, "Area", 4) == 0);
     tracks[SCARLETBOOK_MULTICHANNEL_FIRST].text[SCARLETBOOK_TRACK_MESSAGE].place = 1793;
     text = scarletbook_decode_disc_track_text(work, sizeof work, disc.multichannel, tracks,
-                                              SCARLETBOOK_TRACK_RECORDS, 1, SCARLETBOOK_TRACK_MESSAGE, page,
-                                              sizeof page);
+                                              SCARLETBOOK_TRACK_RECORDS, 1, SCARLETBOOK_TRACK_MESSAGE, NULL, 0,
+                                              page, sizeof page);
     CHECK(text.refusal == 0 && text.len == 3 && memcmp(page, "rea", 3) == 0);
 }
 
@@ -124,11 +125,12 @@ static void lone_tables(void)
     CHECK(same_time(tracks[0].times.stored_start, at_zero) && same_time(tracks[0].times.stored_duration, past));
     CHECK(tracks[0].start_lsn == 1000 && tracks[0].length_sectors == 500);
     scarletbook_decode_answer text =
-        scarletbook_decode_area_text(table, size, read.area, SCARLETBOOK_AREA_DESCRIPTION, page, sizeof page);
+        scarletbook_decode_area_text(table, size, read.area, SCARLETBOOK_AREA_DESCRIPTION, NULL, 0, page,
+                                     sizeof page);
     CHECK(text.refusal == 0 && text.len == 4);
     tracks[0].text[SCARLETBOOK_TRACK_MESSAGE].place = 1794;
     text = scarletbook_decode_track_text(table, size, read.area, tracks, SCARLETBOOK_MAX_TRACKS, 1,
-                                         SCARLETBOOK_TRACK_MESSAGE, page, sizeof page);
+                                         SCARLETBOOK_TRACK_MESSAGE, NULL, 0, page, sizeof page);
     CHECK(text.refusal == 0 && text.len == 2 && memcmp(page, "ea", 2) == 0);
     scarletbook_table_head_record head = scarletbook_table_head(table, size, 2, 77, 3);
     CHECK(head.skip == 0 && head.area.origin.slot == 2 && head.area.origin.toc_lsn == 77);
@@ -432,13 +434,13 @@ static void parts_of_tables(void)
     CHECK(scarletbook_string_length(bytes, sizeof bytes, 3) == 2);
     CHECK(scarletbook_string_end(bytes, sizeof bytes, 3) == SCARLETBOOK_ENDED_BY_ZERO_BYTE);
     CHECK(scarletbook_charset(8) == 0 && scarletbook_charset(11) == 3);
-    scarletbook_decode_answer text = scarletbook_decode(bytes + 3, 2, 2, page, 3);
+    scarletbook_decode_answer text = scarletbook_decode(bytes + 3, 2, 2, NULL, 0, page, 3);
     CHECK(text.refusal == 0 && text.len == 3 && memcmp(page, "a\303\251", 3) == 0);
     static uint8_t longest[4096];
     memset(longest, 0xe9, sizeof longest);
-    CHECK(scarletbook_decode(longest, sizeof longest, 2, page, sizeof page).len == SCARLETBOOK_PAGE_BYTES);
-    CHECK(scarletbook_decode(bytes + 3, 2, 3, page, 3).refusal == SCARLETBOOK_SET_NOT_HELD);
-    CHECK(scarletbook_decode(bytes + 3, 2, 2, page, 2).refusal == SCARLETBOOK_SHORT_PAGE);
+    CHECK(scarletbook_decode(longest, sizeof longest, 2, NULL, 0, page, sizeof page).len == 2 * sizeof longest);
+    CHECK(scarletbook_decode(bytes + 3, 2, 3, NULL, 0, page, 3).refusal == SCARLETBOOK_SET_NOT_HELD);
+    CHECK(scarletbook_decode(bytes + 3, 2, 2, NULL, 0, page, 2).refusal == SCARLETBOOK_SHORT_PAGE);
     scarletbook_fixed_text_record fixed = scarletbook_fixed_bytes(field, 8);
     CHECK(fixed.len == 4 && memcmp(fixed.bytes, " A1 \0\0\0\0", 8) == 0);
     fixed = scarletbook_fixed_text(field, 8);
@@ -448,6 +450,69 @@ static void parts_of_tables(void)
     CHECK(scarletbook_frame_number(time) == 4653);
     scarletbook_cap_answer cap = scarletbook_cap(4400, 101, 4500);
     CHECK(cap.start_frame == 4400 && cap.duration_frames == 100 && cap.past_playtime == 1);
+}
+
+/* A single, a pair whose value is a double, that double. */
+static const uint32_t mapping[] = {1, 'a', 0x3042, 1, 0x82f5, UINT32_C(0x80000000), 1, 0x304b, 0x1f};
+#define MAPPING mapping, sizeof mapping / sizeof mapping[0]
+
+static void mappings(void)
+{
+    static const uint8_t bytes[] = {'a', 0x82, 0xf5, 'b'};
+    scarletbook_decode_answer text = scarletbook_decode(bytes, sizeof bytes, 3, MAPPING, page, 10);
+    CHECK(text.refusal == 0 && text.len == 10);
+    CHECK(memcmp(page, "\343\201\202\343\201\213 \357\277\275", 10) == 0);
+    CHECK(scarletbook_decode(bytes, sizeof bytes, 3, MAPPING, page, 9).refusal == SCARLETBOOK_SHORT_PAGE);
+    CHECK(scarletbook_decode(bytes, 1, 2, MAPPING, page, 1).len == 1 && page[0] == 'a');
+    /* A count beyond the words, a repeated key, a surrogate; 12 comes before 10. */
+    static const uint32_t beyond[] = {0, 0, 1}, repeated[] = {2, 'a', 'a', 'a', 'a', 0, 0};
+    static const uint32_t surrogate[] = {1, 'a', 0xd800, 0, 0};
+    CHECK(scarletbook_decode(bytes, 1, 3, beyond, 3, NULL, 0).refusal == SCARLETBOOK_BAD_MAPPING);
+    CHECK(scarletbook_decode(bytes, 1, 4, repeated, 7, page, 8).refusal == SCARLETBOOK_BAD_MAPPING);
+    CHECK(scarletbook_decode(bytes, 1, 6, surrogate, 5, page, 8).refusal == SCARLETBOOK_BAD_MAPPING);
+    CHECK(scarletbook_decode(bytes, 1, 2, surrogate, 5, page, 8).refusal == 0);
+    CHECK(scarletbook_decode(bytes, 0, 3, surrogate, 5, NULL, 0).refusal == 0);
+    CHECK(strcmp(scarletbook_refusal_word(SCARLETBOOK_BAD_MAPPING), "bad mapping") == 0);
+    CHECK(scarletbook_refusal_word(13)[0] == 0);
+    /* Every byte gives two code points of four bytes each. */
+    static const uint32_t widest[] = {1, 'a', UINT32_C(0x80000000), 0, 1, 0x1d11e, 0x10ffff};
+    static uint8_t longest[4096];
+    memset(longest, 'a', sizeof longest);
+    text = scarletbook_decode(longest, sizeof longest, 5, widest, 7, page, sizeof page);
+    CHECK(text.refusal == 0 && text.len == SCARLETBOOK_PAGE_BYTES);
+}
+
+/* Texts of the records by the mapping, the disc's and the area's of set 3. */
+static void mapped_records(void)
+{
+    make_image();
+    uint8_t *master = image + MASTER * SCARLETBOOK_SECTOR_SIZE, *table = image + TABLE * SCARLETBOOK_SECTOR_SIZE;
+    put(master + 128, "\1\0\0\0\0\0\0\0jp\3", 11);
+    put(master + 2048 + 1024, "a\202\365\0", 4);
+    put(table + 80, "\1\0\0\0\0\0\0\0jp\3", 11);
+    scarletbook_disc_answer disc =
+        scarletbook_read_disc(SCARLETBOOK_PLAIN, image, sizeof image, work, sizeof work, tracks,
+                              SCARLETBOOK_TRACK_RECORDS, words, SCARLETBOOK_WARNING_WORDS);
+    scarletbook_area area = disc.multichannel;
+    CHECK(disc.refusal == 0 && scarletbook_charset(disc.master.text_charset) == 3 && area.text_charset == 3);
+    scarletbook_decode_answer text = scarletbook_decode_disc_text(
+        work, sizeof work, disc.master, SCARLETBOOK_DISC_TITLE, MAPPING, page, sizeof page);
+    CHECK(text.refusal == 0 && text.len == 7 && memcmp(page, "\343\201\202\343\201\213 ", 7) == 0);
+    text = scarletbook_decode_disc_area_text(work, sizeof work, area, 0, MAPPING, page, sizeof page);
+    CHECK(text.len == 12 && memcmp(page + 9, "\343\201\202", 3) == 0);
+    CHECK(scarletbook_decode_disc_area_text(work, sizeof work, area, 1, mapping, 1, page, 0).refusal == 0);
+    CHECK(scarletbook_decode_disc_area_text(work, sizeof work, area, 4, mapping, 1, page, 0).refusal ==
+          SCARLETBOOK_NO_SUCH_ENTRY);
+    tracks[SCARLETBOOK_MULTICHANNEL_FIRST].text[SCARLETBOOK_TRACK_TITLE].place = 1795;
+    text = scarletbook_decode_disc_track_text(work, sizeof work, area, tracks, SCARLETBOOK_TRACK_RECORDS, 1,
+                                              SCARLETBOOK_TRACK_TITLE, MAPPING, page, sizeof page);
+    CHECK(text.len == 3 && memcmp(page, "\343\201\202", 3) == 0);
+    const uint8_t *lone = work + SCARLETBOOK_MULTICHANNEL_REGION;
+    text = scarletbook_decode_area_text(lone, 6144, area, 0, MAPPING, page, sizeof page);
+    CHECK(text.len == 12);
+    text = scarletbook_decode_track_text(lone, 6144, area, tracks + SCARLETBOOK_MULTICHANNEL_FIRST,
+                                         SCARLETBOOK_MAX_TRACKS, 1, SCARLETBOOK_TRACK_TITLE, mapping, 1, page, 0);
+    CHECK(text.refusal == SCARLETBOOK_BAD_MAPPING && text.len == 0);
 }
 
 /* The readings and decodings with no memory. */
@@ -464,14 +529,15 @@ static void no_memory(void)
     CHECK(scarletbook_read_disc(0, NULL, 0, NULL, 0, NULL, 0, NULL, 0).refusal == SCARLETBOOK_SHORT_BUFFER);
     CHECK(scarletbook_read_disc(0, NULL, 0, work, sizeof work, tracks, SCARLETBOOK_TRACK_RECORDS, words,
                                 SCARLETBOOK_WARNING_WORDS).refusal == SCARLETBOOK_CUT_MASTER);
-    CHECK(scarletbook_decode_disc_text(NULL, 0, master, 0, NULL, 0).refusal == SCARLETBOOK_SHORT_BUFFER);
-    CHECK(scarletbook_decode_disc_text(work, sizeof work, master, 0, NULL, 0).refusal == 0);
-    CHECK(scarletbook_decode_disc_area_text(NULL, 0, area, 0, NULL, 0).refusal == SCARLETBOOK_SHORT_BUFFER);
-    CHECK(scarletbook_decode_disc_track_text(NULL, 0, area, NULL, 0, 1, 0, NULL, 0).refusal ==
+    CHECK(scarletbook_decode_disc_text(NULL, 0, master, 0, NULL, 0, NULL, 0).refusal == SCARLETBOOK_SHORT_BUFFER);
+    CHECK(scarletbook_decode_disc_text(work, sizeof work, master, 0, NULL, 0, NULL, 0).refusal == 0);
+    CHECK(scarletbook_decode_disc_area_text(NULL, 0, area, 0, NULL, 0, NULL, 0).refusal == SCARLETBOOK_SHORT_BUFFER);
+    CHECK(scarletbook_decode_disc_track_text(NULL, 0, area, NULL, 0, 1, 0, NULL, 0, NULL, 0).refusal ==
           SCARLETBOOK_SHORT_BUFFER);
     CHECK(scarletbook_read_table(NULL, 0, NULL, 0, NULL, 0).refusal == SCARLETBOOK_ODD_TABLE);
-    CHECK(scarletbook_decode_area_text(NULL, 0, area, 0, NULL, 0).refusal == 0);
-    CHECK(scarletbook_decode_track_text(NULL, 0, area, NULL, 0, 1, 0, NULL, 0).refusal == SCARLETBOOK_SHORT_BUFFER);
+    CHECK(scarletbook_decode_area_text(NULL, 0, area, 0, NULL, 0, NULL, 0).refusal == 0);
+    CHECK(scarletbook_decode_track_text(NULL, 0, area, NULL, 0, 1, 0, NULL, 0, NULL, 0).refusal ==
+          SCARLETBOOK_SHORT_BUFFER);
     CHECK(scarletbook_table_head(NULL, 0, 1, 0, 1).skip == SCARLETBOOK_AREA_SIGNATURE_INVALID);
     CHECK(scarletbook_draw_at(NULL, 0, 0, 1).found == 0);
 }
@@ -495,8 +561,10 @@ static void no_bytes(void)
     CHECK(scarletbook_be32_at(NULL, 0, 0) == 0);
     CHECK(scarletbook_string_length(NULL, 0, 0) == 0);
     CHECK(scarletbook_string_end(NULL, 0, 0) == SCARLETBOOK_ENDED_BY_TABLE_END);
-    CHECK(scarletbook_decode(NULL, 0, 2, NULL, 0).len == 0);
-    CHECK(scarletbook_decode(page, 1, 2, NULL, 0).refusal == SCARLETBOOK_SHORT_PAGE);
+    CHECK(scarletbook_decode(NULL, 0, 2, NULL, 0, NULL, 0).len == 0);
+    CHECK(scarletbook_decode(NULL, 0, 3, NULL, 0, NULL, 0).refusal == 0);
+    CHECK(scarletbook_decode(page, 1, 2, NULL, 0, NULL, 0).refusal == SCARLETBOOK_SHORT_PAGE);
+    CHECK(scarletbook_decode(page, 1, 3, NULL, 0, NULL, 0).refusal == SCARLETBOOK_SET_NOT_HELD);
     CHECK(scarletbook_fixed_bytes(NULL, 0).len == 0);
     CHECK(scarletbook_fixed_text(NULL, 0).len == 0);
 }
@@ -515,6 +583,8 @@ int main(void)
     headers_beyond_mending();
     tape();
     parts_of_tables();
+    mappings();
+    mapped_records();
     no_memory();
     no_bytes();
     printf("%u checks\n", checks);

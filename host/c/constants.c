@@ -51,6 +51,7 @@ static void print_refusals(void)
     NUMBER(SET_NOT_HELD);
     NUMBER(SHORT_PAGE);
     NUMBER(NO_HEADER);
+    NUMBER(BAD_MAPPING);
     NUMBER(BEYOND_MENDING);
     NUMBER(UNEQUAL_LENGTHS);
 }

@@ -24,13 +24,16 @@ static int refused(uint8_t refusal)
     return 1;
 }
 
-/* Prints the tracks of an area, none for a slot without one; in place of a title that is refused, why. */
+/*
+ * Prints the tracks of an area, none for a slot without one; in place of a title that is refused, why. No mapping is
+ * lent, so one of set 3 to 6 is.
+ */
 static void list(scarletbook_area area)
 {
     for (uint32_t number = 1; number <= area.track_count; number++) {
         scarletbook_decode_answer title =
             scarletbook_decode_disc_track_text(work, sizeof work, area, tracks, SCARLETBOOK_TRACK_RECORDS, number,
-                                               SCARLETBOOK_TRACK_TITLE, page, sizeof page);
+                                               SCARLETBOOK_TRACK_TITLE, NULL, 0, page, sizeof page);
         printf("%u.%u %.*s%s\n", area.origin.slot, number, (int)title.len, (const char *)page,
                scarletbook_refusal_word(title.refusal));
     }
