@@ -92,7 +92,7 @@ fn check(lone: &mut Lone) {
         for (item, &name) in TrackTextItem::ALL.iter().enumerate() {
             let number = track.number.into();
             let Lone { table, tracks, page, .. } = lone;
-            let len = decode_track_text(table, &area, tracks, number, item as u32, page).len;
+            let len = decode_track_text(table, &area, tracks, number, item as u32, &[], page).len;
             assert_eq!(track.text.get(name).map(str::as_bytes), Some(&page[..len]));
         }
     }
@@ -108,12 +108,12 @@ fn read_and_decode(lone: &mut Lone) {
     let area = read(lone).area;
     let Lone { table, tracks, page, .. } = lone;
     for item in 0..AREA_TEXTS as u32 {
-        black_box(decode_area_text(black_box(table), &area, item, black_box(page)));
+        black_box(decode_area_text(black_box(table), &area, item, &[], black_box(page)));
     }
     for number in 1..=MAX_TRACKS as u32 {
         for item in 0..TRACK_TEXTS as u32 {
             let table = black_box(&table[..]);
-            black_box(decode_track_text(table, &area, tracks, number, item, black_box(page)));
+            black_box(decode_track_text(table, &area, tracks, number, item, &[], black_box(page)));
         }
     }
 }

@@ -161,20 +161,20 @@ fn read_and_decode(disc: &mut Disc, mut decoded: impl FnMut(DecodeAnswer)) {
     let (work, page) = (black_box(&**work), black_box(&mut page[..]));
     for (item, text) in (0..).zip(answer.master.text) {
         if text.place > 0 {
-            decoded(decode_disc_text(work, &answer.master, item, page));
+            decoded(decode_disc_text(work, &answer.master, item, &[], page));
         }
     }
     for (area, first) in answer.areas().iter().zip(FIRST_TRACKS) {
         for (item, text) in (0..).zip(area.text) {
             if text.place > 0 {
-                decoded(decode_disc_area_text(work, area, item, page));
+                decoded(decode_disc_area_text(work, area, item, &[], page));
             }
         }
         for track in &tracks[first..first + usize::from(area.track_count)] {
             let number = track.number.into();
             for (item, text) in (0..).zip(track.text) {
                 if text.place > 0 {
-                    decoded(decode_disc_track_text(work, area, tracks, number, item, page));
+                    decoded(decode_disc_track_text(work, area, tracks, number, item, &[], page));
                 }
             }
         }

@@ -7,6 +7,7 @@ mod area;
 mod audit;
 mod clock;
 mod disc;
+mod mapping;
 mod mend;
 mod tape;
 mod text;
@@ -158,6 +159,7 @@ fn main() {
     tape::gathering();
     text::decoding();
     text::strings();
+    mapping::texts();
     area::tables();
     disc::discs();
 }

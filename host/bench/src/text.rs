@@ -38,7 +38,7 @@ fn text(letter: fn(&mut Rng) -> u8) -> Text {
     let table = room(BYTES + 1, 0);
     table[..BYTES].fill_with(|| letter(&mut rng));
     let page = room(2 * BYTES, 2048);
-    let len = scarletbook::raw::decode(&table[..BYTES], 0, page).len;
+    let len = scarletbook::raw::decode(&table[..BYTES], 0, &[], page).len;
     let rust = oracle::text::decode_string(&table[..BYTES], Charset::Latin1);
     assert_eq!(rust.as_deref().map(str::as_bytes), Some(&page[..len]));
     Text { table, page }
@@ -51,7 +51,7 @@ fn texts(letter: fn(&mut Rng) -> u8) -> Vec<Text> {
 
 fn decode(text: &mut Text) {
     let bytes = &black_box(text.table)[..BYTES];
-    black_box(scarletbook::raw::decode(bytes, black_box(0), black_box(&mut *text.page)));
+    black_box(scarletbook::raw::decode(bytes, black_box(0), &[], black_box(&mut *text.page)));
 }
 
 fn decode_string(text: &mut Text) {
