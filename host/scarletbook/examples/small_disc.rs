@@ -1,5 +1,5 @@
 // Writes a small disc image: two tracks in the two-channel area, one in the multichannel area,
-// whose texts are of a set that is not held. The examples in the crate's documents include it.
+// whose texts are of set 3. The examples in the crate's documents include it.
 //
 //     cargo run --offline -p scarletbook --example small_disc -- FILE [0|1|2]
 

@@ -23,7 +23,8 @@
 //! ```
 //!
 //! Every call takes any bytes and any numbers, and always returns. What it refuses is a [`Refusal`],
-//! with a number and a word. [`raw`] has the exported functions themselves, over slices.
+//! with a number and a word. Texts of the character sets 3 to 6 are decoded by [`Mappings`] that are lent
+//! to the disc. [`raw`] has the exported functions themselves, over slices.
 
 #![deny(unsafe_code)]
 
