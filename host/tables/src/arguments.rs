@@ -214,6 +214,12 @@ mod tests {
         let four = [(4, "b"), (3, "b"), (6, "-c"), (5, "audit")];
         let line = "--mapping 4=b --mapping 3=b a --mapping=6=-c --mapping 5=audit";
         assert_eq!(parse(line), listed_by(&four));
+        // A file's name is any bytes.
+        let name = OsStr::from_bytes(b"\xff");
+        let words = [OsStr::new("--mapping"), OsStr::from_bytes(b"3=\xff"), OsStr::new("a")];
+        let parsed = Request::parse(words.map(OsString::from));
+        let named = |arguments: &Arguments| arguments.mappings == [(3, PathBuf::from(name))];
+        assert!(matches!(parsed, Ok(Request::Run(arguments)) if named(&arguments)));
     }
 
     #[test]
