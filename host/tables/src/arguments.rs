@@ -310,14 +310,6 @@ mod tests {
                 ("--format=-1 a", "--format needs 0, 1 or 2, not -1"),
                 ("--format 4294967296 a", "--format needs 0, 1 or 2, not 4294967296"),
                 ("--format 0 --format 0 a", "only one --format"),
-                ("a --mapping", "--mapping needs SET=FILE, SET 3, 4, 5 or 6"),
-                ("--mapping a", "--mapping needs SET=FILE, SET 3, 4, 5 or 6, not a"),
-                ("--mapping= a", "--mapping needs SET=FILE, SET 3, 4, 5 or 6, not "),
-                ("--mapping 3= a", "--mapping needs SET=FILE, SET 3, 4, 5 or 6, not 3="),
-                ("--mapping=2=b a", "--mapping needs SET=FILE, SET 3, 4, 5 or 6, not 2=b"),
-                ("--mapping 7=b a", "--mapping needs SET=FILE, SET 3, 4, 5 or 6, not 7=b"),
-                ("--mapping 33=b a", "--mapping needs SET=FILE, SET 3, 4, 5 or 6, not 33=b"),
-                ("--mapping 3=b --mapping=3=c a", "only one --mapping of set 3"),
                 ("a audit", "audit is a command, and stands first; a file: ./audit"),
                 ("--format 2 audit", "audit is a command, and stands first; a file: ./audit"),
             ],
@@ -335,6 +327,19 @@ mod tests {
                 ),
             ],
         );
+    }
+
+    #[test]
+    fn what_is_wrong_with_a_mapping_is_said() {
+        let needs = "--mapping needs SET=FILE, SET 3, 4, 5 or 6";
+        check_wrong(&LISTING, &[("a --mapping", needs)]);
+        for wrong in ["a", "3", "3=", "=b", "2=b", "7=b", "33=b", "x=b"] {
+            let why = format!("{needs}, not {wrong}");
+            check_wrong(&LISTING, &[(&format!("--mapping {wrong} a"), &why)]);
+            check_wrong(&LISTING, &[(&format!("a --mapping={wrong}"), &why)]);
+        }
+        check_wrong(&LISTING, &[("--mapping= a", &format!("{needs}, not "))]);
+        check_wrong(&LISTING, &[("--mapping 3=b a --mapping=3=c", "only one --mapping of set 3")]);
     }
 
     #[test]
