@@ -16,6 +16,7 @@ mod fields;
 mod guard;
 mod headers;
 mod heads;
+mod held;
 mod layouts;
 mod lone;
 mod mending;
@@ -244,6 +245,7 @@ fn main() -> ExitCode {
     if options.exact {
         guard::make_exact();
     }
+    held::make(options.seed);
     let kinds = match run(&options) {
         Ok(kinds) => kinds,
         Err(error) => {

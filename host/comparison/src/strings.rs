@@ -1,6 +1,7 @@
 //! Stored strings as parts of a table, how they ended, and their decoding into a page.
 
 use crate::guard::Guarded;
+use crate::held::{self, Words};
 use crate::rust;
 use crate::sectors::Buffer;
 use crate::tally::Kind;
@@ -42,6 +43,7 @@ pub struct Decoded<'a> {
 struct Question<'a> {
     bytes: Buffer<'a>,
     code: u8,
+    words: Words,
     page: usize,
 }
 
@@ -60,6 +62,8 @@ impl Strings {
         let ended = ["by a zero byte", "by 4,096 bytes", "by the end"];
         let out = ["at the end", "just behind the end", "far out", "largest place", "no table"];
         let sets = ["refusal 9", "set 3", "set 4", "set 5", "set 6", "set above 7"];
+        let mapped =
+            ["refusal 12", "12 before 10", "absent by no mapping", "Latin-1 by no mapping"];
         let absent = ["absent in Latin-1", "absent in set 3 to 6", "Latin-1 above 7"];
         let pages = ["refusal 10", "page to the byte", "one byte short", "longer page", "no page"];
         let texts = ["ASCII alone", "high bytes alone", "ASCII and high bytes"];
@@ -78,6 +82,8 @@ impl Strings {
                 "decode",
                 &[
                     &sets[..],
+                    &mapped[..],
+                    &MAPPED,
                     &absent[..],
                     &pages[..],
                     &["9 before 10"],
@@ -102,17 +108,20 @@ impl Strings {
         }
         for byte in 0..=255 {
             for page in 0..=6 {
-                self.decode_case(b"ab \x1f\xe9", byte, page, 0);
-                self.decode_case(b"", byte, page, 0);
+                self.decode_case(b"ab \x1f\xe9", (byte, held::NONE), page, 0);
+                self.decode_case(b"", (byte, held::NONE), page, 0);
+            }
+            for page in 0..=40 {
+                self.decode_case(b"ab \x1f\xe9", (byte, held::of(byte)), page, 0);
             }
             for page in 0..=3 {
-                self.decode_case(&[byte], 0, page, 0);
+                self.decode_case(&[byte], (0, held::NONE), page, 0);
             }
         }
         for text in single_texts(0x1f).chain(single_texts(0xe9)) {
             let need = utf8_length(&text);
-            self.decode_case(&text, 0, need, 0);
-            self.decode_case(&text, 0, need - 1, 0);
+            self.decode_case(&text, (0, held::NONE), need, 0);
+            self.decode_case(&text, (0, held::NONE), need - 1, 0);
         }
     }
 
@@ -121,8 +130,10 @@ impl Strings {
         let (table, place) = any_string(rng);
         self.string_case(&table, place);
         let text = any_text(rng);
-        let page = any_page_length(rng, utf8_length(&text));
-        self.decode_case(&text, any_code(rng), page, rng.below(256));
+        let code = any_code(rng);
+        let need = rust::decode(&text, code).map_or(0, |text| text.len());
+        let page = any_page_length(rng, need);
+        self.decode_case(&text, (code, held::any(rng, code)), page, rng.below(256));
     }
 
     fn string_case(&mut self, table: &[u8], place: usize) {
@@ -142,20 +153,29 @@ impl Strings {
         kind.class_if("by the end", end == TABLE_END);
     }
 
-    pub fn decode_case(&mut self, bytes: &[u8], code: u8, page: usize, salt: usize) {
+    /// Decodes bytes of the set that a code names, by these words.
+    pub fn decode_case(&mut self, bytes: &[u8], by: (u8, Words), page: usize, salt: usize) {
+        let (code, words) = by;
         let mut ours = Guarded::bytes(salt, page);
         let mut theirs = ours.clone();
-        let answer = scarletbook::raw::decode(bytes, code, &mut ours);
+        let answer = scarletbook::raw::decode(bytes, code, words.list, &mut ours);
         let library = Decoded { answer, page: Buffer(ours.all()) };
-        let answer = expected_decode(bytes, code, &mut theirs);
+        let text = rust::decode(bytes, code);
+        let answer = expected_text(text.as_deref(), by, &mut theirs);
         let rust = Decoded { answer, page: Buffer(theirs.all()) };
         let kind = &mut self.decode;
-        let question = Question { bytes: Buffer(bytes), code, page };
+        let question = Question { bytes: Buffer(bytes), code, words, page };
         kind.values.note(&library.answer, &rust.answer);
         kind.case(&question, answer.refusal, library, rust);
-        count_code(kind, bytes, code, page, answer);
-        count_page(kind, bytes, page, answer);
-        count_text(kind, bytes, answer);
+        let need = text.map_or(0, |text| text.len());
+        count_code(kind, bytes, code, answer);
+        count_words(kind, bytes, by, answer);
+        kind.class_if("9 before 10", answer.refusal == 9 && need > page);
+        kind.class_if("12 before 10", answer.refusal == 12 && need > page);
+        count_page(kind, need, page, answer);
+        if !held::is_mapped(code) {
+            count_text(kind, bytes, answer);
+        }
     }
 }
 
@@ -190,26 +210,22 @@ fn count_string(kind: &mut Kind, table: &[u8], place: usize, length: usize) {
     kind.class_if("no table", table.is_empty());
 }
 
-/// The text by the Rust.
-fn expected_decode(bytes: &[u8], code: u8, page: &mut [u8]) -> DecodeAnswer {
-    expected_text(rust::decode(bytes, code).as_deref(), code, page)
-}
-
-/// A text of the Rust, or its presence alone in sets 3 to 6; refusals 9 and 10 by the document.
-pub fn expected_text(text: Option<&str>, code: u8, page: &mut [u8]) -> DecodeAnswer {
+/// A text of the Rust, which has the mapping of each set; refusals 9, 12 and 10 by the document.
+pub fn expected_text(text: Option<&str>, by: (u8, Words), page: &mut [u8]) -> DecodeAnswer {
     let refused = |refusal| DecodeAnswer { refusal, len: 0 };
     let Some(text) = text else { return refused(0) };
-    if (3..=6).contains(&(code % 8)) {
-        return refused(9);
+    let (code, words) = by;
+    if held::is_mapped(code) && words.refusal != 0 {
+        return refused(words.refusal);
     }
     let Some(start) = page.get_mut(..text.len()) else { return refused(10) };
     start.copy_from_slice(text.as_bytes());
     DecodeAnswer { refusal: 0, len: text.len() }
 }
 
-fn count_code(kind: &mut Kind, bytes: &[u8], code: u8, page: usize, answer: DecodeAnswer) {
+fn count_code(kind: &mut Kind, bytes: &[u8], code: u8, answer: DecodeAnswer) {
     let set = code % 8;
-    let mapped = (3..=6).contains(&set);
+    let mapped = held::is_mapped(code);
     for (number, class) in [(3, "set 3"), (4, "set 4"), (5, "set 5"), (6, "set 6")] {
         kind.class_if(class, answer.refusal == 9 && set == number);
     }
@@ -217,11 +233,27 @@ fn count_code(kind: &mut Kind, bytes: &[u8], code: u8, page: usize, answer: Deco
     kind.class_if("Latin-1 above 7", answer.len > 0 && code > 7);
     kind.class_if("absent in Latin-1", bytes.is_empty() && !mapped);
     kind.class_if("absent in set 3 to 6", bytes.is_empty() && mapped);
-    kind.class_if("9 before 10", answer.refusal == 9 && utf8_length(bytes) > page);
 }
 
-fn count_page(kind: &mut Kind, bytes: &[u8], page: usize, answer: DecodeAnswer) {
-    let need = utf8_length(bytes);
+/// The classes of the words that are lent.
+fn count_words(kind: &mut Kind, bytes: &[u8], (code, words): (u8, Words), answer: DecodeAnswer) {
+    let (mapped, bad) = (held::is_mapped(code), words.refusal == 12);
+    kind.class_if("absent by no mapping", bytes.is_empty() && mapped && bad);
+    kind.class_if("Latin-1 by no mapping", answer.len > 0 && !mapped && bad);
+    count_mapped(kind, code, answer);
+}
+
+/// The classes of texts that are decoded by a mapping, of each set.
+pub const MAPPED: [&str; 4] =
+    ["mapped in set 3", "mapped in set 4", "mapped in set 5", "mapped in set 6"];
+
+pub fn count_mapped(kind: &mut Kind, code: u8, answer: DecodeAnswer) {
+    if held::is_mapped(code) && answer.len > 0 {
+        kind.class(MAPPED[usize::from(code % 8) - 3], 1);
+    }
+}
+
+fn count_page(kind: &mut Kind, need: usize, page: usize, answer: DecodeAnswer) {
     kind.class_if("page to the byte", answer.len > 0 && page == need);
     kind.class_if("longer page", answer.len > 0 && page > need);
     kind.class_if("one byte short", answer.refusal == 10 && page + 1 == need && page > 0);

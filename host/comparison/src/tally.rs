@@ -116,6 +116,7 @@ fn refusal_class(refusal: u8) -> &'static str {
         9 => "refusal 9",
         10 => "refusal 10",
         11 => "refusal 11",
+        12 => "refusal 12",
         14 => "refusal 14",
         20 => "refusal 20",
         _ => "another refusal",

@@ -1,11 +1,12 @@
 //! The texts of lone tables: every item of every area and track, and records that lie.
 
 use crate::guard::{Guarded, patterned_tracks};
+use crate::held::{self, Words};
 use crate::lone::Lone;
 use crate::plain;
 use crate::rust;
 use crate::sectors::Buffer;
-use crate::strings::{Decoded, expected_text};
+use crate::strings::{Decoded, MAPPED, count_mapped, expected_text};
 use crate::tables::write;
 use crate::tally::Kind;
 use generate::Rng;
@@ -22,7 +23,7 @@ enum Which {
     Track(u32, u32),
 }
 
-/// What decoding is lent.
+/// What decoding is lent, but for the words of a mapping.
 struct Lent<'a> {
     table: &'a [u8],
     area: Area,
@@ -30,13 +31,15 @@ struct Lent<'a> {
 }
 
 impl Lent<'_> {
-    fn decode(&self, which: Which, page: &mut [u8]) -> DecodeAnswer {
+    fn decode(&self, which: Which, mapping: &[u32], page: &mut [u8]) -> DecodeAnswer {
         let Lent { table, area, tracks } = self;
         match which {
-            Which::Area(item) => scarletbook::raw::decode_area_text(table, area, item, page),
-            Which::Track(number, item) => {
-                scarletbook::raw::decode_track_text(table, area, tracks, number, item, page)
+            Which::Area(item) => {
+                scarletbook::raw::decode_area_text(table, area, item, mapping, page)
             }
+            Which::Track(number, item) => scarletbook::raw::decode_track_text(
+                table, area, tracks, number, item, mapping, page,
+            ),
         }
     }
 }
@@ -48,6 +51,7 @@ struct Question {
     area: Area,
     tracks: usize,
     which: Which,
+    words: Words,
     page: usize,
 }
 
@@ -60,21 +64,21 @@ pub struct Texts {
 impl Texts {
     pub fn new() -> Self {
         let texts = ["accepted", "present", "absent", "absent in set 3 to 6", "high bytes"];
-        let pages = ["refusal 9", "refusal 10", "one byte short", "page to the byte"];
+        let pages = ["refusal 9", "refusal 12", "refusal 10", "one byte short", "page to the byte"];
         let sectors = ["above 128 sectors", "sectors 0", "fewer sectors", "longer table"];
         let counts = ["above 255 tracks", "track 255 of more", "track 256", "track 0", "slot 2"];
         let entries = ["flag 0", "flag above 1", "slot 0", "slot 3", "no such item"];
         let places = ["place at the end", "place past the end", "largest place", "cut text"];
         let short = ["short table", "254 records", "2 before 8", "8 before 9", "longer list"];
-        let lies = ["accepted", "refusal 2", "refusal 8", "refusal 9", "refusal 10"];
-        let common = [&texts[..], &pages[..]].concat();
+        let lies = ["accepted", "refusal 2", "refusal 8", "refusal 9", "refusal 12", "refusal 10"];
+        let order = ["2 before 12", "8 before 12"];
+        let common = [&texts[..], &pages[..], &MAPPED].concat();
         Texts {
             area: Kind::new("area texts", &common),
             track: Kind::new("track texts", &[&common[..], &["track 255"]].concat()),
             lies: Kind::new(
                 "texts by lies",
-                &[&lies[..], &sectors[..], &counts[..], &entries[..], &places[..], &short[..]]
-                    .concat(),
+                &[&lies[..], &sectors, &counts, &entries, &places, &short, &order].concat(),
             ),
         }
     }
@@ -119,11 +123,15 @@ impl Texts {
         let (refusal, string) = found(&lent, which);
         let text = rust::decode(string, area.text_charset);
         let page = any_page_length(rng, text.as_ref().map_or(2, String::len));
-        decode_case(&mut self.lies, rng, &lent, which, page, |page| match refusal {
-            0 => expected_text(text.as_deref(), area.text_charset, page),
+        let words = held::any(rng, area.text_charset);
+        decode_case(&mut self.lies, rng, &lent, (which, words), page, |page| match refusal {
+            0 => expected_text(text.as_deref(), (area.text_charset, words), page),
             refusal => DecodeAnswer { refusal, len: 0 },
         });
         count_lie(&mut self.lies, &lent, which, (refusal, string));
+        let bad = held::is_mapped(area.text_charset) && words.refusal == 12;
+        self.lies.class_if("2 before 12", bad && refusal == 2);
+        self.lies.class_if("8 before 12", bad && refusal == 8);
     }
 }
 
@@ -132,9 +140,11 @@ fn text_case(kind: &mut Kind, rng: &mut Rng, lent: &Lent, which: Which, text: Op
     let code = lent.area.text_charset;
     let need = text.map_or(2, str::len);
     let page = any_page_length(rng, need);
-    let expected = |page: &mut [u8]| expected_text(text, code, page);
-    let answer = decode_case(kind, rng, lent, which, page, expected);
-    let mapped = (3..=6).contains(&(code % 8));
+    let words = held::any(rng, code);
+    let expected = |page: &mut [u8]| expected_text(text, (code, words), page);
+    let answer = decode_case(kind, rng, lent, (which, words), page, expected);
+    let mapped = held::is_mapped(code);
+    count_mapped(kind, code, answer);
     kind.class_if("present", answer.len > 0);
     kind.class_if("absent", text.is_none() && !mapped);
     kind.class_if("absent in set 3 to 6", text.is_none() && mapped);
@@ -149,18 +159,18 @@ fn decode_case(
     kind: &mut Kind,
     rng: &mut Rng,
     lent: &Lent,
-    which: Which,
+    (which, words): (Which, Words),
     page: usize,
     expected: impl Fn(&mut [u8]) -> DecodeAnswer,
 ) -> DecodeAnswer {
     let mut ours = Guarded::bytes(rng.below(256), page);
     let mut theirs = ours.clone();
-    let answer = lent.decode(which, &mut ours);
+    let answer = lent.decode(which, words.list, &mut ours);
     let library = Decoded { answer, page: Buffer(ours.all()) };
     let answer = expected(&mut theirs);
     let rust = Decoded { answer, page: Buffer(theirs.all()) };
     let (bytes, tracks) = (lent.table.len(), lent.tracks.len());
-    let question = Question { bytes, area: lent.area, tracks, which, page };
+    let question = Question { bytes, area: lent.area, tracks, which, words, page };
     kind.values.note(&library.answer, &rust.answer);
     kind.case(&question, answer.refusal, library, rust);
     answer
@@ -267,8 +277,7 @@ fn count_lie(kind: &mut Kind, lent: &Lent, which: Which, found: (u8, &[u8])) {
     kind.class_if("no such item", refusal == 8 && sound && !item);
     kind.class_if("short table", refusal == 2 && table.len() < size);
     kind.class_if("2 before 8", refusal == 2 && !(sound && item));
-    let mapped = (3..=6).contains(&(area.text_charset % 8));
-    kind.class_if("8 before 9", refusal == 8 && mapped);
+    kind.class_if("8 before 9", refusal == 8 && held::is_mapped(area.text_charset));
     count_place(kind, lent, which, found, size);
 }
 

@@ -22,7 +22,7 @@ const FEW: [(&str, &[u64]); 32] = [
     ("audit_answer.refusal", &[0, 1, 8, 11]),
     ("audit_answer.verdict", &[0, 1, 2, 3]),
     ("mended.refusal", &[0, 1, 8, 11, 14]),
-    ("decode_answer.refusal", &[0, 2, 8, 9, 10]),
+    ("decode_answer.refusal", &[0, 2, 8, 9, 10, 12]),
     ("detect_answer.refusal", &[0, 4]),
     ("detect_answer.sector_format", &[0, 1, 2]),
     ("cap_answer.past_playtime", FLAG),

@@ -1,4 +1,4 @@
-//! A deterministic generator of images, of discs, of area tables, of texts and of questions about
+//! A deterministic generator of images, of discs, of area tables, of texts, of mappings and of questions about
 //! them: the same seed gives the same cases everywhere. `plain` walks over a table by the document,
 //! `endings` says how strings end, and `tape` gathers an image.
 
@@ -7,6 +7,7 @@ pub mod endings;
 pub mod header;
 pub mod image;
 pub mod layout;
+pub mod mapping;
 pub mod noise;
 pub mod plain;
 pub mod question;

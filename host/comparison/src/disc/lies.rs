@@ -2,7 +2,8 @@
 
 use super::answer::Answer;
 use super::memory::Lent;
-use super::texts::{Which, decode_case};
+use super::texts::{self, Which, decode_case};
+use crate::held;
 use crate::plain;
 use crate::rust;
 use crate::strings::expected_text;
@@ -25,7 +26,8 @@ pub struct Lies {
 
 impl Lies {
     pub fn new() -> Self {
-        let refusals = ["accepted", "refusal 2", "refusal 8", "refusal 9", "refusal 10"];
+        let refusals =
+            ["accepted", "refusal 2", "refusal 8", "refusal 9", "refusal 12", "refusal 10"];
         let sectors = ["above 128 sectors", "128 sectors", "sectors 0", "slot 1", "slot 2"];
         let counts = ["above 255 tracks", "track 255 of more", "track 256", "track 0"];
         let entries = ["flag 0", "flag above 1", "slot 0", "slot 3"];
@@ -33,7 +35,7 @@ impl Lies {
         let places = ["place at the end", "place past the end", "largest place", "cut text"];
         let disc = ["disc text", "cut disc text", "disc place 2,048", "disc place past it"];
         let short = ["544,767 bytes", "509 records", "longer work", "longer list"];
-        let order = ["2 before 8", "8 before 9"];
+        let order = ["2 before 8", "8 before 9", "2 before 12", "8 before 12"];
         let classes =
             [&refusals[..], &sectors, &counts, &entries, &items, &places, &disc, &short, &order];
         Lies { kind: Kind::new("disc texts by lies", &classes.concat()) }
@@ -62,13 +64,19 @@ impl Lies {
         let work = &lent.work[..any_room(rng, WORK_BYTES).min(lent.work.len())];
         let tracks = &lent.tracks[..any_room(rng, TRACK_RECORDS).min(lent.tracks.len())];
         let (refusal, string) = found(work, tracks, &which);
-        let text = rust::decode(string, which.charset());
+        let code = which.charset();
+        let text = rust::decode(string, code);
         let page = any_page_length(rng, text.as_ref().map_or(2, String::len));
-        decode_case(&mut self.kind, rng, (work, tracks), which, page, |page| match refusal {
-            0 => expected_text(text.as_deref(), which.charset(), page),
+        let words = held::any(rng, code);
+        let lent = texts::Lent { work, tracks, words };
+        decode_case(&mut self.kind, rng, lent, which, page, |page| match refusal {
+            0 => expected_text(text.as_deref(), (code, words), page),
             refusal => DecodeAnswer { refusal, len: 0 },
         });
         count(&mut self.kind, work, tracks, &which, (refusal, string));
+        let bad = held::is_mapped(code) && words.refusal == 12;
+        self.kind.class_if("2 before 12", bad && refusal == 2);
+        self.kind.class_if("8 before 12", bad && refusal == 8);
     }
 }
 
@@ -195,8 +203,7 @@ fn count(kind: &mut Kind, work: &[u8], tracks: &[Track], which: &Which, found: (
     kind.class_if("509 records", list && tracks.len() == TRACK_RECORDS - 1);
     kind.class_if("longer work", present && work.len() > WORK_BYTES);
     kind.class_if("longer list", present && tracks.len() > TRACK_RECORDS);
-    let mapped = (3..=6).contains(&(which.charset() % 8));
-    kind.class_if("8 before 9", refusal == 8 && mapped);
+    kind.class_if("8 before 9", refusal == 8 && held::is_mapped(which.charset()));
     match which {
         Which::Disc(master, item) => count_disc(kind, work, master, *item, found),
         Which::Area(area, item) => {

@@ -1,10 +1,11 @@
 //! The texts of a disc: every item of the disc, of its areas and of their tracks.
 
 use super::answer::Answer;
-use super::memory::Lent;
+use super::memory;
 use crate::guard::Guarded;
+use crate::held::{self, Words};
 use crate::sectors::Buffer;
-use crate::strings::{Decoded, expected_text};
+use crate::strings::{Decoded, MAPPED, count_mapped, expected_text};
 use crate::tally::Kind;
 use generate::Rng;
 use generate::text::any_page_length;
@@ -32,15 +33,24 @@ impl Which {
         }
     }
 
-    fn decode(&self, work: &[u8], tracks: &[Track], page: &mut [u8]) -> DecodeAnswer {
+    fn decode(&self, lent: Lent, page: &mut [u8]) -> DecodeAnswer {
+        let Lent { work, tracks, words: Words { list, .. } } = lent;
         match self {
-            Which::Disc(master, item) => decode_disc_text(work, master, *item, page),
-            Which::Area(area, item) => decode_disc_area_text(work, area, *item, page),
+            Which::Disc(master, item) => decode_disc_text(work, master, *item, list, page),
+            Which::Area(area, item) => decode_disc_area_text(work, area, *item, list, page),
             Which::Track(area, number, item) => {
-                decode_disc_track_text(work, area, tracks, *number, *item, page)
+                decode_disc_track_text(work, area, tracks, *number, *item, list, page)
             }
         }
     }
+}
+
+/// What decoding is lent: of the memory of a reading, and the words of a mapping.
+#[derive(Clone, Copy)]
+pub struct Lent<'a> {
+    pub work: &'a [u8],
+    pub tracks: &'a [Track],
+    pub words: Words,
 }
 
 #[derive(Debug)]
@@ -49,6 +59,7 @@ struct Question {
     work: usize,
     tracks: usize,
     which: Which,
+    words: Words,
     page: usize,
 }
 
@@ -61,8 +72,8 @@ pub struct Texts {
 impl Texts {
     pub fn new() -> Self {
         let texts = ["accepted", "present", "absent", "absent in set 3 to 6", "high bytes"];
-        let pages = ["refusal 9", "refusal 10", "one byte short", "page to the byte"];
-        let common = [&texts[..], &pages].concat();
+        let pages = ["refusal 9", "refusal 12", "refusal 10", "one byte short", "page to the byte"];
+        let common = [&texts[..], &pages, &MAPPED].concat();
         let slots = [&common[..], &["slot 1", "slot 2"]].concat();
         Texts {
             disc: Kind::new("disc texts", &[&common[..], &["of a silent disc"]].concat()),
@@ -72,8 +83,9 @@ impl Texts {
     }
 
     /// Every text of a disc, accepted or silent, from the memory that its reading left.
-    pub fn cases(&mut self, rng: &mut Rng, answer: &Answer, lent: &Lent) {
-        let lent = (&lent.work[..WORK_BYTES], &lent.tracks[..TRACK_RECORDS]);
+    pub fn cases(&mut self, rng: &mut Rng, answer: &Answer, lent: &memory::Lent) {
+        let (work, tracks) = (&lent.work[..WORK_BYTES], &lent.tracks[..TRACK_RECORDS]);
+        let lent = Lent { work, tracks, words: held::NONE };
         for (item, &name) in (0..).zip(DiscTextItem::ALL) {
             let which = Which::Disc(answer.master, item);
             let text = answer.text.get(name);
@@ -97,20 +109,16 @@ impl Texts {
     }
 }
 
-/// A text that the Rust has or has not.
-fn text_case(
-    kind: &mut Kind,
-    rng: &mut Rng,
-    lent: (&[u8], &[Track]),
-    which: Which,
-    text: Option<&str>,
-) {
+/// A text that the Rust has or has not, by any words.
+fn text_case(kind: &mut Kind, rng: &mut Rng, lent: Lent, which: Which, text: Option<&str>) {
     let code = which.charset();
     let need = text.map_or(2, str::len);
     let page = any_page_length(rng, need);
-    let expected = |page: &mut [u8]| expected_text(text, code, page);
-    let answer = decode_case(kind, rng, lent, which, page, expected);
-    let mapped = (3..=6).contains(&(code % 8));
+    let words = held::any(rng, code);
+    let expected = |page: &mut [u8]| expected_text(text, (code, words), page);
+    let answer = decode_case(kind, rng, Lent { words, ..lent }, which, page, expected);
+    let mapped = held::is_mapped(code);
+    count_mapped(kind, code, answer);
     kind.class_if("present", answer.len > 0);
     kind.class_if("absent", text.is_none() && !mapped);
     kind.class_if("absent in set 3 to 6", text.is_none() && mapped);
@@ -128,19 +136,19 @@ fn text_case(
 pub fn decode_case(
     kind: &mut Kind,
     rng: &mut Rng,
-    lent: (&[u8], &[Track]),
+    lent: Lent,
     which: Which,
     page: usize,
     expected: impl Fn(&mut [u8]) -> DecodeAnswer,
 ) -> DecodeAnswer {
-    let (work, tracks) = lent;
+    let Lent { work, tracks, words } = lent;
     let mut ours = Guarded::bytes(rng.below(256), page);
     let mut theirs = ours.clone();
-    let answer = which.decode(work, tracks, &mut ours);
+    let answer = which.decode(lent, &mut ours);
     let library = Decoded { answer, page: Buffer(ours.all()) };
     let answer = expected(&mut theirs);
     let rust = Decoded { answer, page: Buffer(theirs.all()) };
-    let question = Question { work: work.len(), tracks: tracks.len(), which, page };
+    let question = Question { work: work.len(), tracks: tracks.len(), which, words, page };
     kind.values.note(&library.answer, &rust.answer);
     kind.case(&question, answer.refusal, library, rust);
     answer

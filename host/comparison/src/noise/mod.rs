@@ -13,6 +13,7 @@ use crate::disc::reads::Reads;
 use crate::disc::texts::Texts;
 use crate::endings::Endings;
 use crate::guard::Guarded;
+use crate::held;
 use crate::progress::Progress;
 use crate::strings::Strings;
 use crate::tables::Tables;
@@ -35,9 +36,10 @@ const SHORT: u64 = 2_000;
 const DECODED: usize = 5000;
 
 const ENDS: [&str; 2] = ["by a zero byte", "by the end"];
-const TEXTS: [&str; 4] = ["present", "absent", "refusal 9", "refusal 10"];
-const RECORDS: [&str; 5] = ["accepted", "refusal 2", "refusal 8", "refusal 9", "refusal 10"];
-const DECODING: [&str; 3] = ["refusal 9", "refusal 10", "longer page"];
+const TEXTS: [&str; 5] = ["present", "absent", "refusal 9", "refusal 12", "refusal 10"];
+const RECORDS: [&str; 6] =
+    ["accepted", "refusal 2", "refusal 8", "refusal 9", "refusal 12", "refusal 10"];
+const DECODING: [&str; 4] = ["refusal 9", "refusal 12", "refusal 10", "longer page"];
 
 /// What is counted in one thread.
 struct Run {
@@ -124,7 +126,8 @@ impl Run {
         self.lone(rng, case, &lent);
         let part = &lent[..lent.len().min(DECODED)];
         let page = rng.below(2 * part.len() + 2);
-        self.strings.decode_case(part, any_code(rng), page, rng.below(256));
+        let code = any_code(rng);
+        self.strings.decode_case(part, (code, held::any(rng, code)), page, rng.below(256));
         let [after, before] = lent.differing(&before);
         self.lent.case(&("case", case, "bytes", lent.len()), 0, after, before);
         self.lent.class_if("no bytes", lent.is_empty());
