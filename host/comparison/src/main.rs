@@ -19,6 +19,8 @@ mod heads;
 mod held;
 mod layouts;
 mod lone;
+mod mapped;
+mod mappings;
 mod mending;
 mod noise;
 mod numbers;
@@ -37,6 +39,7 @@ mod threads;
 mod times;
 mod tracks;
 mod values;
+mod words;
 
 use draws::Draws;
 use endings::Endings;
@@ -59,8 +62,8 @@ use texts::Texts;
 use times::Times;
 use values::Taken;
 
-/// Numbers, texts, lone tables and discs.
-fn all(options: &Options) -> Vec<Kind> {
+/// Numbers, texts, mappings, lone tables and discs.
+fn all(options: &Options) -> io::Result<Vec<Kind>> {
     let mut extent = Extent::new();
     let mut sectors = Sectors::new();
     let mut numbers = Numbers::new();
@@ -83,9 +86,15 @@ fn all(options: &Options) -> Vec<Kind> {
     let times = [times.frame_number, times.cap];
     let tape = tape::kinds(options.seed, options.tapes);
     let sectors = sectors.into_iter().chain(headers(options)).chain(tape);
-    let below = sectors.chain(numbers).chain(texts).chain(times);
+    let below = sectors.chain(numbers).chain(texts).chain(mappings(options)?).chain(times);
     let areas = areas(options).into_iter().chain([layouts::kind()]);
-    below.chain(areas).chain(disc::kinds(options.seed, options.count)).collect()
+    Ok(below.chain(areas).chain(disc::kinds(options.seed, options.count)).collect())
+}
+
+/// Decoding by mappings, and lists of words.
+fn mappings(options: &Options) -> io::Result<Vec<Kind>> {
+    let Options { seed, mappings, lists, .. } = *options;
+    Ok(mappings::kinds(seed, mappings)?.into_iter().chain(words::kinds(seed, lists)).collect())
 }
 
 /// The audit and mending of many headers.
@@ -148,15 +157,19 @@ fn areas(options: &Options) -> Vec<Kind> {
 
 /// Says what is compared, and compares it.
 fn run(options: &Options) -> io::Result<Vec<Kind>> {
-    let Options { seed, cases, tapes, texts, tables, count, cuts, .. } = *options;
+    let Options { seed, cases, tapes, texts, mappings, tables, count, cuts, .. } = *options;
     match options.mode {
         Mode::All => {
             println!("seed {seed}, {cases} images, {texts} texts, {tables} tables, {count} discs");
-            Ok(all(options))
+            all(options)
         }
         Mode::Tape => {
             println!("seed {seed}, {tapes} longer images");
             Ok(tape::kinds(seed, tapes))
+        }
+        Mode::Mappings => {
+            println!("seed {seed}, {mappings} mappings, {} lists of words", options.lists);
+            self::mappings(options)
         }
         Mode::Discs => {
             println!("seed {seed}, {count} discs");
@@ -242,6 +255,11 @@ fn main() -> ExitCode {
         eprintln!("{USAGE}");
         return ExitCode::from(2);
     };
+    if let Some(part) = options.part {
+        let kinds = mappings::part(options.seed, options.mappings, part);
+        kinds.iter().for_each(|kind| println!("{}", kind.counts_line()));
+        return ExitCode::SUCCESS;
+    }
     if options.exact {
         guard::make_exact();
     }

@@ -1,8 +1,9 @@
 //! What the command line asks for.
 
 pub const USAGE: &str = "usage: host/compare [--short] [--seed N] [--count N] [--cases N] \
-    [--headers N] [--tapes N] [--texts N] [--tables N] [--exact]
+    [--headers N] [--tapes N] [--texts N] [--mappings N] [--lists N] [--tables N] [--exact]
        host/compare tape [--short] [--seed N] [--tapes N]
+       host/compare mappings [--short] [--seed N] [--mappings N] [--lists N]
        host/compare discs [--seed N] [--count N]
        host/compare command [--seed N] [--count N]
        host/compare noise [--seed N] [--count N]
@@ -14,6 +15,8 @@ pub enum Mode {
     All,
     /// Gathering for the tape store alone.
     Tape,
+    /// Decoding by mappings, and lists of words, alone.
+    Mappings,
     /// Discs alone.
     Discs,
     /// The command `tables --dump` over discs in files.
@@ -38,6 +41,12 @@ pub struct Options {
     pub tapes: u64,
     /// Random strings, as many texts to decode, and as many fields, draws and times.
     pub texts: u64,
+    /// Mappings that strings are decoded by, some hundreds by each.
+    pub mappings: u64,
+    /// The part of the mappings that is compared and counted for another process; all without one.
+    pub part: Option<u64>,
+    /// Lists of words that are mappings, and others.
+    pub lists: u64,
     /// Random lone tables, beside those at the edges.
     pub tables: u64,
     /// Cuts of each disc in each format.
@@ -54,6 +63,9 @@ const FULL: Options = Options {
     headers: 1_000_000,
     tapes: 1_000,
     texts: 100_000,
+    mappings: 2_048,
+    part: None,
+    lists: 1_000_000,
     tables: 80_000,
     cuts: 1_100,
     exact: false,
@@ -65,6 +77,8 @@ const SHORT: Options = Options {
     headers: 20_000,
     tapes: 50,
     texts: 5_000,
+    mappings: 64,
+    lists: 20_000,
     tables: 1_500,
     cuts: 60,
     ..FULL
@@ -90,6 +104,9 @@ pub fn options(words: impl Iterator<Item = String>) -> Option<Options> {
             "--headers" => options.headers = words.next()?.parse().ok()?,
             "--tapes" => options.tapes = words.next()?.parse().ok()?,
             "--texts" => options.texts = words.next()?.parse().ok()?,
+            "--mappings" => options.mappings = words.next()?.parse().ok()?,
+            "--part" => options.part = Some(words.next()?.parse().ok()?),
+            "--lists" => options.lists = words.next()?.parse().ok()?,
             "--tables" => options.tables = words.next()?.parse().ok()?,
             "--cuts" => options.cuts = words.next()?.parse().ok()?,
             name if options.mode == Mode::All => options.mode = mode(name)?,
@@ -110,6 +127,7 @@ fn value_of<'a>(words: &'a [String], name: &str) -> Option<&'a String> {
 fn mode(name: &str) -> Option<Mode> {
     match name {
         "tape" => Some(Mode::Tape),
+        "mappings" => Some(Mode::Mappings),
         "discs" => Some(Mode::Discs),
         "command" => Some(Mode::Command),
         "noise" => Some(Mode::Noise),

@@ -85,6 +85,29 @@ impl Kind {
         self.values.add(&other.values);
     }
 
+    /// All counts, and the first difference, on a line for another process.
+    pub fn counts_line(&self) -> String {
+        let classes = self.classes.iter().map(|(_, count)| *count);
+        let counts = [self.cases, self.refused, self.differences].into_iter().chain(classes);
+        let counts: Vec<_> = counts.map(|count| count.to_string()).collect();
+        let first = self.first.as_deref().unwrap_or_default();
+        format!("{};{}", counts.join(" "), first.replace('\n', "\t"))
+    }
+
+    /// The kind with the counts of such a line; nothing if that is none.
+    pub fn with_counts(mut self, line: &str) -> Option<Self> {
+        let (counts, first) = line.split_once(';')?;
+        let counts: Vec<u64> =
+            counts.split(' ').map(|count| count.parse().ok()).collect::<Option<_>>()?;
+        let (sums, classes) = counts.split_first_chunk()?;
+        [self.cases, self.refused, self.differences] = *sums;
+        for ((_, count), &new) in self.classes.iter_mut().zip(classes) {
+            *count = new;
+        }
+        self.first = (!first.is_empty()).then(|| first.replace('\t', "\n"));
+        (classes.len() == self.classes.len()).then_some(self)
+    }
+
     /// The cases of a class; 0 for one that the kind does not have.
     pub fn count(&self, class: &str) -> u64 {
         self.classes.iter().find(|(name, _)| *name == class).map_or(0, |(_, count)| *count)
@@ -137,4 +160,18 @@ fn a_difference_and_a_scant_class_are_seen() {
     assert_eq!(kind.scant_classes().count(), 0);
     kind.least = 2;
     assert_eq!(kind.scant_classes().collect::<Vec<_>>(), ["even"]);
+}
+
+#[test]
+fn counts_come_back_from_their_line() {
+    let mut kind = Kind::new("kind", &["refusal 1", "even"]);
+    kind.case(&"a", 1, 5, 6);
+    kind.class("even", 7);
+    let line = kind.counts_line();
+    let other = Kind::new("kind", &["refusal 1", "even"]).with_counts(&line).expect("a line");
+    assert_eq!((other.cases, other.refused, other.differences), (1, 1, 1));
+    assert_eq!((other.classes, other.first), (kind.classes, kind.first));
+    for line in ["", "1 1 1 1 1", "1 1 1 1;", "1 1 1 1 x;", "1 1 1 1 1 1;"] {
+        assert!(Kind::new("kind", &["refusal 1", "even"]).with_counts(line).is_none(), "{line}");
+    }
 }

@@ -3,7 +3,7 @@
 use std::sync::OnceLock;
 
 /// The mounts of text.rs, each with tables of its own. The first is that of `read_toc`.
-pub const MOUNTS: usize = 8;
+pub const MOUNTS: usize = 9;
 
 /// The names by which text.rs includes the data of sets 3 to 6.
 const NAMES: [&str; 4] = ["/set3-", "/set4-", "/set5-", "/set6-"];

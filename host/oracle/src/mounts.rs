@@ -24,6 +24,7 @@ mount!(text4, 4);
 mount!(text5, 5);
 mount!(text6, 6);
 mount!(text7, 7);
+mount!(text8, 8);
 
 /// `decode_string` of a mount, in the set that a code names.
 pub fn decode_string(mount: usize, bytes: &[u8], code: u8) -> Option<String> {
@@ -45,4 +46,5 @@ const DECODE: [fn(&[u8], u8) -> Option<String>; MOUNTS] = [
     decode!(text5),
     decode!(text6),
     decode!(text7),
+    decode!(text8),
 ];

@@ -59,10 +59,16 @@ fn any_words(rng: &mut Rng) -> Vec<u32> {
     (0..count).map(|_| rng.word() as u32 >> rng.pick(&[0, 8, 16, 28, 30, 31, 31])).collect()
 }
 
-/// A small mapping of at least so many entries in each list, now and then with the last keys, or with many.
+/// A mapping of at least so many entries in each list, mostly of a few, now and then of many.
 fn any_mapping(rng: &mut Rng, least: usize) -> Mapping {
-    let more = if rng.below(256) == 0 { 200 } else { 5 };
-    let [singles, pairs, doubles] = [(); 3].map(|()| least + rng.below(more));
+    let more = match rng.below(1024) {
+        0 => 8_000,
+        1..=15 => 250,
+        16..=79 => 40,
+        _ => 5,
+    };
+    let singles = least + rng.below(more.min(250));
+    let [pairs, doubles] = [(); 2].map(|()| least + rng.below(more));
     let doubles: Vec<_> = (0..doubles).map(|_| (any_point(rng), any_point(rng))).collect();
     let value = |rng: &mut Rng| match doubles.len() {
         0 => any_point(rng),
