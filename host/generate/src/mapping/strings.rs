@@ -8,7 +8,7 @@ use crate::text::MOST;
 pub fn any_string(rng: &mut Rng, mapping: &Mapping) -> Vec<u8> {
     let length = match rng.below(128) {
         0 => MOST,
-        1 => rng.below(MOST + 20),
+        1 => 1 + rng.below(MOST + 20),
         2..=40 => 1 + rng.below(3),
         _ => 1 + rng.below(40),
     };
