@@ -2,7 +2,8 @@
 
 use crate::disc::answer::read;
 use crate::disc::dump::{dump, refusal};
-use crate::disc::dumps::{differing, drop_unterminated, unterminated_lines};
+use crate::disc::dumps::{MAPPED, differing, drop_unterminated, unterminated_lines};
+use crate::held;
 use crate::progress::Progress;
 use crate::rust::format_number;
 use crate::tally::Kind;
@@ -30,20 +31,24 @@ const WORDS: [(u8, &str); 5] = [
 ];
 
 /// What a run of the command gave.
+#[derive(Default)]
 struct Ran {
     /// Without the warnings 19, which are the next.
     out: String,
     unterminated: Vec<String>,
     error: String,
     status: Option<i32>,
+    /// How many texts of sets 3 to 6 there are.
+    texts: usize,
 }
 
 struct Run {
     with_format: Kind,
     without_format: Kind,
-    /// The command, and the file of the images.
+    /// The command, the file of the images, and those of the mappings.
     tables: PathBuf,
     file: PathBuf,
+    mappings: Vec<String>,
 }
 
 /// Compares the command for as many discs, each with its format and without one.
@@ -54,9 +59,11 @@ pub fn kinds(seed: u64, discs: u64) -> io::Result<Vec<Kind>> {
     }
     let folder = std::env::temp_dir().join(format!("comparison-{}", std::process::id()));
     fs::create_dir_all(&folder)?;
+    let mappings = write_mappings(&folder)?;
     let progress = Progress::new("images", discs);
     let runs = in_threads(discs, |cases| {
-        let mut run = Run::new(&tables, folder.join(format!("{}.iso", cases.start)));
+        let file = folder.join(format!("{}.iso", cases.start));
+        let mut run = Run::new(&tables, file, &mappings);
         run.cases(seed, cases, &progress)?;
         Ok(vec![run.with_format, run.without_format])
     });
@@ -68,18 +75,30 @@ pub fn kinds(seed: u64, discs: u64) -> io::Result<Vec<Kind>> {
     Ok(kinds)
 }
 
+/// Writes the data text of each mapping to a file; the words of the command line for them.
+fn write_mappings(folder: &Path) -> io::Result<Vec<String>> {
+    let mut words = vec![];
+    for (set, text) in held::texts() {
+        let file = folder.join(format!("set {set}.txt"));
+        fs::write(&file, text)?;
+        words.extend(["--mapping".to_string(), format!("{set}={}", file.display())]);
+    }
+    Ok(words)
+}
+
 impl Run {
-    fn new(tables: &Path, file: PathBuf) -> Self {
+    fn new(tables: &Path, file: PathBuf, mappings: &[String]) -> Self {
         let refusals = ["accepted", "refusal 3", "refusal 4", "refusal 5", "refusal 6"];
         let formats = ["format 0", "format 1", "format 2", "19 dropped"];
-        let given = [&refusals[..], &formats, &["refusal 1"]].concat();
+        let given = [&refusals[..], &formats, &MAPPED, &["refusal 1"]].concat();
         let none = ["no format found", "refusal 3 without a format", "refusal 4 without a format"];
-        let found = [&refusals[..], &formats, &["another than given"], &none].concat();
+        let found = [&refusals[..], &formats, &MAPPED, &["another than given"], &none].concat();
         Run {
             with_format: Kind::new("tables --format", &given),
             without_format: Kind::new("tables", &found),
             tables: tables.to_path_buf(),
             file,
+            mappings: mappings.to_vec(),
         }
     }
 
@@ -98,23 +117,27 @@ impl Run {
     fn given(&mut self, case: u64, disc: &Disc) -> io::Result<()> {
         let rust = read(disc);
         let format = disc.format.to_string();
-        let ours = self.run(&["--format", &format])?;
-        let theirs = self.expected(disc, rust.as_ref());
+        let mapped = !case.is_multiple_of(4);
+        let ours = self.run(&["--format", &format], mapped)?;
+        let theirs = self.expected(disc, rust.as_ref(), mapped);
+        self.with_format.class(MAPPED[usize::from(!mapped)], theirs.texts);
         compare(&mut self.with_format, (case, disc), refusal(rust.as_ref()), &ours, &theirs);
         Ok(())
     }
 
     /// Without a format: that which the Rust's `Image::open` finds, or else format 0.
     fn found(&mut self, case: u64, mut disc: Disc) -> io::Result<()> {
-        let ours = self.run(&[])?;
+        let mapped = case.is_multiple_of(2);
+        let ours = self.run(&[], mapped)?;
         let given = disc.format;
         let format = detected(&disc.bytes).map(format_number);
         disc.format = format.unwrap_or(0);
         disc.form = layout(disc.format).unwrap_or(disc.form);
         let rust = read(&disc);
         let refusal = refusal(rust.as_ref());
-        let theirs = self.expected(&disc, rust.as_ref());
+        let theirs = self.expected(&disc, rust.as_ref(), mapped);
         let kind = &mut self.without_format;
+        kind.class(MAPPED[usize::from(!mapped)], theirs.texts);
         compare(kind, (case, &disc), refusal, &ours, &theirs);
         kind.class_if("no format found", format.is_none());
         kind.class_if("refusal 3 without a format", format.is_none() && refusal == 3);
@@ -123,23 +146,24 @@ impl Run {
         Ok(())
     }
 
-    fn run(&self, words: &[&str]) -> io::Result<Ran> {
-        let output =
-            Command::new(&self.tables).arg("--dump").args(words).arg(&self.file).output()?;
+    fn run(&self, words: &[&str], mapped: bool) -> io::Result<Ran> {
+        let mappings = if mapped { &self.mappings[..] } else { &[] };
+        let mut command = Command::new(&self.tables);
+        let output = command.arg("--dump").args(words).args(mappings).arg(&self.file).output()?;
         let text = |bytes: &[u8]| String::from_utf8_lossy(bytes).into_owned();
         let (out, unterminated) = drop_unterminated(&text(&output.stdout));
         let error = text(&output.stderr);
-        Ok(Ran { out, unterminated, error, status: output.status.code() })
+        Ok(Ran { out, unterminated, error, status: output.status.code(), ..Ran::default() })
     }
 
     /// What a run must give: a refusal names the image, and has its word.
-    fn expected(&self, disc: &Disc, rust: Option<&(Rust, Stored)>) -> Ran {
+    fn expected(&self, disc: &Disc, rust: Option<&(Rust, Stored)>, mapped: bool) -> Ran {
         let refusal = refusal(rust);
         let word = WORDS.iter().find(|(number, _)| *number == refusal);
         let line = |(number, word)| format!("{}: refused {number}: {word}\n", self.file.display());
         let error = word.copied().map(line).unwrap_or_default();
-        let (out, unterminated) = (dump(rust), unterminated_lines(disc, rust));
-        Ran { out, unterminated, error, status: Some(i32::from(refusal != 0)) }
+        let ((out, texts), unterminated) = (dump(rust, mapped), unterminated_lines(disc, rust));
+        Ran { out, unterminated, error, status: Some(i32::from(refusal != 0)), texts }
     }
 }
 

@@ -2,16 +2,19 @@
 
 use crate::disc::{CODES, READS};
 use crate::endings::{OF_DISCS as ENDS_OF_DISCS, OF_TABLES as ENDS_OF_TABLES};
+use crate::mappings::{MAPPINGS, TEXTS};
+use crate::strings::BY_MAPPING;
 use crate::tally::Kind;
 use crate::tracks::{OF_DISCS, OF_TABLES};
 use crate::values::Taken;
+use crate::words::{ALONE, LISTS};
 use scarletbook::{Refusal, WarningCode};
 
 /// A line: what it says, and the kind and its class that count it; all cases for no class.
 type Line = (String, &'static str, String);
 
-/// The lines of a run over discs, but for refusals and warnings.
-const DISCS: [(&str, &str, &str); 40] = [
+/// The lines of a run, but for refusals and warnings of discs.
+const DISCS: [(&str, &str, &str); 51] = [
     ("images in format 0", READS, "image of format 0"),
     ("images in format 1", READS, "image of format 1"),
     ("images in format 2", READS, "image of format 2"),
@@ -40,8 +43,11 @@ const DISCS: [(&str, &str, &str); 40] = [
     ("track texts of discs ended by 4,096 bytes", ENDS_OF_DISCS, "by 4,096 bytes"),
     ("track texts of discs ended by the table's end", ENDS_OF_DISCS, "by the end"),
     ("disc texts", "disc texts", ""),
+    ("disc texts by a mapping", "disc texts", BY_MAPPING),
     ("area texts", "disc area texts", ""),
+    ("area texts by a mapping", "disc area texts", BY_MAPPING),
     ("track texts", "disc track texts", ""),
+    ("track texts by a mapping", "disc track texts", BY_MAPPING),
     ("texts by records that lie", "disc texts by lies", ""),
     ("dumps", "dumps", ""),
     ("lines of dumps", "dumps", "lines"),
@@ -52,6 +58,14 @@ const DISCS: [(&str, &str, &str); 40] = [
     ("tracks of lone tables with warning 19", ENDS_OF_TABLES, "19"),
     ("track texts of lone tables ended by 4,096 bytes", ENDS_OF_TABLES, "by 4,096 bytes"),
     ("track texts of lone tables ended by the table's end", ENDS_OF_TABLES, "by the end"),
+    ("track texts of lone tables by a mapping", "track texts", BY_MAPPING),
+    ("mappings", MAPPINGS, ""),
+    ("mappings of 24,000 pairs", MAPPINGS, "24,000 pairs"),
+    ("strings by mappings", TEXTS, ""),
+    ("strings by mappings with a reserved pair in set 3", TEXTS, "reserved in set 3"),
+    ("lists of words", LISTS, ""),
+    ("lists of words that are no mapping", LISTS, "refusal 12"),
+    ("lists of words that are none by one cause", ALONE, ""),
 ];
 
 /// The lines of the table, for a document.
@@ -121,6 +135,9 @@ fn every_line_has_its_class() {
     let mut kinds = crate::disc::kinds(1, 0);
     kinds.push(crate::tracks::Tracks::of_tables().stored);
     kinds.push(crate::endings::Endings::of_tables().tracks);
+    kinds.push(crate::texts::Texts::new().track);
+    kinds.extend(crate::mappings::part(1, 0, 0));
+    kinds.extend(crate::words::kinds(1, 0));
     for (words, kind, class) in lines().iter().filter(|line| line.1 != "read_table") {
         let kind = kinds.iter().find(|other| other.name == *kind).expect(words);
         let known = class.is_empty() || kind.classes.iter().any(|other| other.0 == class);

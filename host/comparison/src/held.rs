@@ -3,6 +3,7 @@
 
 use generate::Rng;
 use generate::mapping::{Mapping, any_list, held, mapping_of};
+use scarletbook::Mappings;
 use std::fmt;
 use std::sync::OnceLock;
 
@@ -19,10 +20,11 @@ pub struct Words {
 /// No words.
 pub const NONE: Words = Words { list: &[], refusal: 9 };
 
-/// The data texts of the mappings and their words, and words that are none.
+/// The data texts of the mappings and their words, those that `tables` makes of the texts, and words that are none.
 struct Held {
     texts: [String; 4],
     mappings: [Vec<u32>; 4],
+    read: [Vec<u32>; 4],
     bad: Vec<Vec<u32>>,
 }
 
@@ -33,8 +35,11 @@ pub fn make(seed: u64) {
     let mappings: [Mapping; 4] =
         std::array::from_fn(|set| held(&mut Rng::of_case(seed, set as u64)));
     let rng = &mut Rng::new(seed);
+    let texts = mappings.each_ref().map(|mapping| mapping.text(rng));
+    let words = |text: &String| ::tables::mapping::words(text.as_bytes()).expect("a data text");
     let held = Held {
-        texts: mappings.each_ref().map(|mapping| mapping.text(rng)),
+        read: texts.each_ref().map(words),
+        texts,
         bad: bad(rng, &mappings),
         mappings: mappings.map(|mapping| mapping.words()),
     };
@@ -63,8 +68,15 @@ fn all() -> &'static Held {
 }
 
 /// The data text of each set.
-pub fn texts() -> &'static [String; 4] {
-    &all().texts
+pub fn texts() -> impl Iterator<Item = (u8, &'static str)> {
+    (3..).zip(&all().texts).map(|(set, text)| (set, text.as_str()))
+}
+
+/// All mappings, as `tables` makes them of their data texts.
+pub fn read() -> Mappings<'static> {
+    (3..).zip(&all().read).fold(Mappings::new(), |mappings, (set, words)| {
+        mappings.with(set, words).expect("a set of 3 to 6")
+    })
 }
 
 /// Whether a code names a set of 3 to 6.

@@ -243,13 +243,15 @@ fn count_words(kind: &mut Kind, bytes: &[u8], (code, words): (u8, Words), answer
     count_mapped(kind, code, answer);
 }
 
-/// The classes of texts that are decoded by a mapping, of each set.
-pub const MAPPED: [&str; 4] =
-    ["mapped in set 3", "mapped in set 4", "mapped in set 5", "mapped in set 6"];
+/// The classes of texts that are decoded by a mapping: of each set, and of all.
+pub const MAPPED: [&str; 5] =
+    ["mapped in set 3", "mapped in set 4", "mapped in set 5", "mapped in set 6", BY_MAPPING];
+pub const BY_MAPPING: &str = "by a mapping";
 
 pub fn count_mapped(kind: &mut Kind, code: u8, answer: DecodeAnswer) {
     if held::is_mapped(code) && answer.len > 0 {
         kind.class(MAPPED[usize::from(code % 8) - 3], 1);
+        kind.class(BY_MAPPING, 1);
     }
 }
 

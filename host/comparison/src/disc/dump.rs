@@ -12,9 +12,11 @@ use oracle::toc::{
 };
 use std::fmt::{Display, Write};
 
-/// The dump of what an image gives; of nothing for a foreign format.
-pub fn dump(rust: Option<&(Disc, Stored)>) -> String {
-    let mut lines = Lines { text: String::with_capacity(1 << 15), owner: String::new() };
+/// The dump of what an image gives, of nothing for a foreign format, and how many texts of sets 3 to 6 it has. With
+/// mappings these are shown.
+pub fn dump(rust: Option<&(Disc, Stored)>, mapped: bool) -> (String, usize) {
+    let (text, owner) = (String::with_capacity(1 << 15), String::new());
+    let mut lines = Lines { text, owner, mapped, texts: 0 };
     match rust {
         None => lines.put("refused", 1),
         Some((Disc::Refused(_), _)) => lines.put("refused", refusal(rust)),
@@ -31,7 +33,7 @@ pub fn dump(rust: Option<&(Disc, Stored)>) -> String {
             lines.put_warnings(warnings);
         }
     }
-    lines.text
+    (lines.text, lines.texts)
 }
 
 /// The number of the refusal, 0 for none.
@@ -43,11 +45,14 @@ struct Lines {
     text: String,
     /// What keys begin with.
     owner: String,
+    /// Whether texts of sets 3 to 6 are shown, and how many there are.
+    mapped: bool,
+    texts: usize,
 }
 
 impl Lines {
     fn put(&mut self, key: &str, value: impl Display) {
-        let Lines { text, owner } = self;
+        let Lines { text, owner, .. } = self;
         writeln!(text, "{owner}{key} {value}").expect("a string takes any text");
     }
 
@@ -199,9 +204,11 @@ impl Lines {
 
     /// A text of the set that a code names.
     fn put_text(&mut self, name: &str, text: Option<&str>, code: u8) {
+        let latin_1 = Charset::from_code(code) == Charset::Latin1;
+        self.texts += usize::from(!latin_1 && text.is_some());
         let value = match text {
             None => "-".to_string(),
-            Some(text) if Charset::from_code(code) == Charset::Latin1 => hex(text.as_bytes()),
+            Some(text) if latin_1 || self.mapped => hex(text.as_bytes()),
             Some(_) => "present".to_string(),
         };
         self.put(&format!("text.{name}"), value);

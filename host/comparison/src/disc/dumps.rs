@@ -2,7 +2,10 @@
 
 use super::answer::unterminated;
 use super::dump::{dump, refusal};
+use crate::held;
 use crate::tally::Kind;
+use ::tables::dump::dump_reading;
+use ::tables::reading::{self, Reading};
 use generate::disc::Disc;
 use oracle::disc::{Disc as Rust, Stored};
 use oracle::lone::numbers;
@@ -10,6 +13,9 @@ use oracle::lone::numbers;
 pub struct Dumps {
     pub kind: Kind,
 }
+
+/// Texts of sets 3 to 6: those that are shown, and those that are only said to be there.
+pub const MAPPED: [&str; 2] = ["texts by mappings", "texts without a mapping"];
 
 /// A line by its number from 1; nothing where a dump has ended.
 type Line<'a> = Option<(usize, Option<&'a str>)>;
@@ -19,14 +25,15 @@ impl Dumps {
         let refusals = ["refusal 1", "refusal 3", "refusal 4", "refusal 5", "refusal 6"];
         let areas = ["accepted", "one area", "two areas", "255 tracks", "no track"];
         let values = ["capped times", "no warning", "19 dropped", "19 alone", "lines"];
-        Dumps { kind: Kind::new("dumps", &[&refusals[..], &areas, &values].concat()) }
+        Dumps { kind: Kind::new("dumps", &[&refusals[..], &areas, &values, &MAPPED].concat()) }
     }
 
-    /// The dump of an image, and what the Rust gives of it, if its format is not foreign.
+    /// The dump of an image, and what the Rust gives of it, if its format is not foreign; one in four without mappings.
     pub fn case(&mut self, case: u64, disc: &Disc, rust: Option<&(Rust, Stored)>) {
-        let library = ::tables::dump::dump(disc.format, &disc.bytes);
-        let (library, dropped) = drop_unterminated(&library);
-        let expected = dump(rust);
+        let mapped = !case.is_multiple_of(4);
+        let (library, dropped) = drop_unterminated(&dump_of(disc, mapped));
+        let (expected, texts) = dump(rust, mapped);
+        self.kind.class(MAPPED[usize::from(!mapped)], texts);
         let walked = unterminated_lines(disc, rust);
         let question = ("case", case, "format", disc.format, "bytes", disc.bytes.len());
         let [ours, theirs] = differing(&library, &expected);
@@ -46,6 +53,16 @@ impl Dumps {
             kind.class_if("no warning", warnings.is_empty());
         }
     }
+}
+
+/// The dump by the library, by all mappings or by none.
+fn dump_of(disc: &Disc, mapped: bool) -> String {
+    let Disc { format, bytes, .. } = disc;
+    if !mapped {
+        return ::tables::dump::dump(*format, bytes);
+    }
+    let read = reading::read(*format, bytes, held::read());
+    dump_reading(Reading::new(*format, bytes, &read))
 }
 
 /// A dump without the warnings 19, neither in its lines nor in their count; and those lines.
