@@ -170,7 +170,7 @@ fn count_controls(kind: &mut Kind, met: &Met) {
     let control = |point: u32| point < 0x20;
     kind.class_if("control of a single", met.value(Source::Single, control));
     kind.class_if("control of a pair", met.value(Source::Pair, control));
-    let double = |value: u32| value.checked_sub(DOUBLE).map(|at| met.mapping.doubles[at as usize]);
+    let double = |value: u32| met.mapping.doubles.get(value.checked_sub(DOUBLE)? as usize);
     let doubles = met.elements.iter().filter_map(|element| element.value).filter_map(double);
     let doubles: Vec<_> = doubles.collect();
     let first = doubles.iter().any(|double| control(double.0));

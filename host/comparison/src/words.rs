@@ -206,8 +206,8 @@ fn count_sound(kind: &mut Kind, mapping: &Mapping) {
     kind.class_if("no entries", singles.is_empty() && pairs.is_empty() && doubles.is_empty());
     kind.class_if("single 255", singles.last().is_some_and(|single| single.0 == 255));
     kind.class_if("pair 65,535", pairs.last().is_some_and(|pair| pair.0 == 65_535));
-    let last = DOUBLE + doubles.len() as u32;
-    kind.class_if("index of the last double", values().any(|value| value + 1 == last));
+    let last = doubles.len().checked_sub(1).map(|last| DOUBLE + last as u32);
+    kind.class_if("index of the last double", values().any(|value| Some(value) == last));
     for (point, class) in GOOD {
         kind.class_if(class, values().any(|value| value == point));
     }
@@ -215,16 +215,16 @@ fn count_sound(kind: &mut Kind, mapping: &Mapping) {
 
 /// Words with one thing wrong, in one of the lists.
 fn count_alone(kind: &mut Kind, words: &[u32], (cause, list): Fault) {
-    let behind = |at: usize| at + 1 + 2 * words[at] as usize;
-    let count_at = (0..list as usize).fold(0, |at, _| behind(at));
+    let count = |at: usize| words.get(at).copied().unwrap_or(0);
+    let behind = |at: usize| at + 1 + 2 * count(at) as usize;
+    let at = (0..list as usize).fold(0, |at, _| behind(at));
     match cause {
         Cause::CountMissing => {}
-        Cause::CountBeyond => kind.class_if("count from 2^31 on", words[count_at] >= DOUBLE),
+        Cause::CountBeyond => kind.class_if("count from 2^31 on", count(at) >= DOUBLE),
         Cause::LeftOver => kind.class_if("a zero left over", words.last() == Some(&0)),
         _ => {
-            let doubles = words[behind(behind(0))];
-            let entries = &words[count_at + 1..behind(count_at)];
-            count_entries(kind, entries, (cause, list), doubles);
+            let entries = words.get(at + 1..behind(at)).unwrap_or_default();
+            count_entries(kind, entries, (cause, list), count(behind(behind(0))));
         }
     }
 }
@@ -235,7 +235,7 @@ fn count_entries(kind: &mut Kind, entries: &[u32], (cause, list): Fault, doubles
     kind.class_if("single 256", wide(List::Singles, 256));
     kind.class_if("pair 65,536", wide(List::Pairs, 65_536));
     let beyond = cause == Cause::IndexBeyond;
-    kind.class_if("index of the count", beyond && entries.contains(&(DOUBLE + doubles)));
+    kind.class_if("index of the count", beyond && entries.contains(&(DOUBLE | doubles)));
     let above = cause == Cause::PointAbove && list == List::Doubles;
     kind.class_if("index as a point", above && entries.iter().any(|&word| word >= DOUBLE));
     let point = matches!(cause, Cause::Surrogate | Cause::PointAbove);

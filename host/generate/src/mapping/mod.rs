@@ -65,16 +65,14 @@ impl Mapping {
         text
     }
 
-    /// The code points of a value.
+    /// The code points of a value; none of a double that is not there.
     pub fn points(&self, value: u32) -> impl Iterator<Item = u32> + use<> {
-        let (first, second) = match value.checked_sub(DOUBLE) {
-            None => (value, None),
-            Some(index) => {
-                let (first, second) = self.doubles[index as usize];
-                (first, Some(second))
-            }
+        let double = value.checked_sub(DOUBLE).map(|index| self.doubles.get(index as usize));
+        let points = match double {
+            None => [Some(value), None],
+            Some(double) => [double.map(|double| double.0), double.map(|double| double.1)],
         };
-        std::iter::once(first).chain(second)
+        points.into_iter().flatten()
     }
 }
 

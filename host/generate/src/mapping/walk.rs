@@ -60,7 +60,7 @@ impl Mapping {
     /// The characters of an element: controls are blanks.
     fn shown(&self, element: &Element) -> impl Iterator<Item = char> + use<> {
         let points = self.points(element.value.unwrap_or(0xfffd));
-        points.map(|point| char::from_u32(point.max(0x20)).expect("a mapping has characters"))
+        points.filter_map(|point| char::from_u32(point.max(0x20)))
     }
 
     /// Whether a byte is the first of a pair.
