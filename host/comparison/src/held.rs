@@ -20,12 +20,15 @@ pub struct Words {
 /// No words.
 pub const NONE: Words = Words { list: &[], refusal: 9 };
 
+/// Words that are allocated to their number.
+type Exact = Box<[u32]>;
+
 /// The data texts of the mappings and their words, those that `tables` makes of the texts, and words that are none.
 struct Held {
     texts: [String; 4],
-    mappings: [Vec<u32>; 4],
-    read: [Vec<u32>; 4],
-    bad: Vec<Vec<u32>>,
+    mappings: [Exact; 4],
+    read: [Exact; 4],
+    bad: Vec<Exact>,
 }
 
 static HELD: OnceLock<Held> = OnceLock::new();
@@ -38,10 +41,10 @@ pub fn make(seed: u64) {
     let texts = mappings.each_ref().map(|mapping| mapping.text(rng));
     let words = |text: &String| ::tables::mapping::words(text.as_bytes()).expect("a data text");
     let held = Held {
-        read: texts.each_ref().map(words),
+        read: texts.each_ref().map(|text| words(text).into()),
         texts,
-        bad: bad(rng, &mappings),
-        mappings: mappings.map(|mapping| mapping.words()),
+        bad: bad(rng, &mappings).into_iter().map(Exact::from).collect(),
+        mappings: mappings.map(|mapping| mapping.words().into()),
     };
     for (set, text) in (3..).zip(&held.texts) {
         oracle::lent::lend(0, set, text.clone());

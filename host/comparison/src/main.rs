@@ -256,8 +256,7 @@ fn main() -> ExitCode {
         return ExitCode::from(2);
     };
     if let Some(part) = options.part {
-        let kinds = mappings::part(options.seed, options.mappings, part);
-        kinds.iter().for_each(|kind| println!("{}", kind.counts_line()));
+        mappings::print_part(options.seed, options.mappings, part);
         return ExitCode::SUCCESS;
     }
     if options.exact {
@@ -280,8 +279,12 @@ fn main() -> ExitCode {
         println!("\n{}", coverage::table(&kinds, &records));
     }
     let status = verdict(&kinds, &records);
+    print_sums(&kinds);
+    ExitCode::from(status)
+}
+
+fn print_sums(kinds: &[Kind]) {
     let cases: u64 = kinds.iter().map(|kind| kind.cases).sum();
     let differences: u64 = kinds.iter().map(|kind| kind.differences).sum();
     println!("{cases} cases, {differences} differences");
-    ExitCode::from(status)
 }

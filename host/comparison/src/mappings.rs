@@ -14,7 +14,7 @@ use oracle::mounts::decode_string;
 use scarletbook::raw::{self, DecodeAnswer};
 use std::io;
 use std::ops::Range;
-use std::process::Command;
+use std::process::{Command, Stdio};
 
 /// The mappings of a part. The first mount has those of the discs.
 const PART: u64 = MOUNTS as u64 - 1;
@@ -65,18 +65,25 @@ pub fn kinds(seed: u64, mappings: u64) -> io::Result<Vec<Kind>> {
 }
 
 /// A part of them, in this process.
-pub fn part(seed: u64, mappings: u64, part: u64) -> Vec<Kind> {
+pub fn part(seed: u64, mappings: u64, number: u64) -> Vec<Kind> {
     let mut run = Run::new();
-    run.cases(seed, part * PART..((part + 1) * PART).min(mappings));
+    run.cases(seed, number * PART..((number + 1) * PART).min(mappings));
     run.kinds()
+}
+
+/// Prints the counts of a part, for the process that sums them.
+pub fn print_part(seed: u64, mappings: u64, number: u64) {
+    for kind in part(seed, mappings, number) {
+        println!("{}", kind.counts_line());
+    }
 }
 
 /// A part of them, in a process of its own.
 fn in_process(seed: u64, mappings: u64, part: u64) -> io::Result<Vec<Kind>> {
     let numbers = [("--seed", seed), ("--mappings", mappings), ("--part", part)];
     let words = numbers.map(|(word, number)| [word.to_string(), number.to_string()]);
-    let output =
-        Command::new(std::env::current_exe()?).arg("mappings").args(words.concat()).output()?;
+    let mut command = Command::new(std::env::current_exe()?);
+    let output = command.arg("mappings").args(words.concat()).stderr(Stdio::inherit()).output()?;
     let text = String::from_utf8_lossy(&output.stdout);
     let kinds = Run::new().kinds().into_iter().zip(text.lines());
     let kinds: Option<Vec<_>> = kinds.map(|(kind, line)| kind.with_counts(line)).collect();

@@ -53,6 +53,20 @@ pub struct Strings {
     pub decode: Kind,
 }
 
+fn decode_kind() -> Kind {
+    let sets = ["refusal 9", "set 3", "set 4", "set 5", "set 6", "set above 7"];
+    let order = ["refusal 12", "9 before 10", "12 before 10"];
+    let bad = ["absent by no mapping", "Latin-1 by no mapping"];
+    let absent = ["absent in Latin-1", "absent in set 3 to 6", "Latin-1 above 7"];
+    let pages = ["refusal 10", "page to the byte", "one byte short", "longer page", "no page"];
+    let texts = ["ASCII alone", "high bytes alone", "ASCII and high bytes"];
+    let controls = ["controls in ASCII", "controls and high bytes"];
+    let lengths = ["4,096 bytes", "more than 4,096 bytes"];
+    let lent = [&sets[..], &order, &bad, &MAPPED, &absent, &pages].concat();
+    let edges = EDGES.map(|edge| edge.1);
+    Kind::new("decode", &[&lent[..], &texts, &controls, &lengths, &edges].concat())
+}
+
 impl Strings {
     pub fn new() -> Self {
         let ends = ["before a zero", "to the table's end", "at a zero"];
@@ -61,14 +75,6 @@ impl Strings {
         let next = ["4,097 before a zero", "4,097 to the end"];
         let ended = ["by a zero byte", "by 4,096 bytes", "by the end"];
         let out = ["at the end", "just behind the end", "far out", "largest place", "no table"];
-        let sets = ["refusal 9", "set 3", "set 4", "set 5", "set 6", "set above 7"];
-        let mapped =
-            ["refusal 12", "12 before 10", "absent by no mapping", "Latin-1 by no mapping"];
-        let absent = ["absent in Latin-1", "absent in set 3 to 6", "Latin-1 above 7"];
-        let pages = ["refusal 10", "page to the byte", "one byte short", "longer page", "no page"];
-        let texts = ["ASCII alone", "high bytes alone", "ASCII and high bytes"];
-        let controls = ["controls in ASCII", "controls and high bytes"];
-        let lengths = ["4,096 bytes", "more than 4,096 bytes"];
         Strings {
             string_bytes: Kind::new(
                 "string_bytes",
@@ -78,22 +84,7 @@ impl Strings {
                 "string_end",
                 &[&ends[..], &last[..], &full[..], &next[..], &out[..], &ended[..]].concat(),
             ),
-            decode: Kind::new(
-                "decode",
-                &[
-                    &sets[..],
-                    &mapped[..],
-                    &MAPPED,
-                    &absent[..],
-                    &pages[..],
-                    &["9 before 10"],
-                    &texts[..],
-                    &controls[..],
-                    &lengths[..],
-                    &EDGES.map(|edge| edge.1),
-                ]
-                .concat(),
-            ),
+            decode: decode_kind(),
         }
     }
 

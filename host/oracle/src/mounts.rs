@@ -26,6 +26,8 @@ mount!(text6, 6);
 mount!(text7, 7);
 mount!(text8, 8);
 
+type Decode = fn(&[u8], u8) -> Option<String>;
+
 /// `decode_string` of a mount, in the set that a code names.
 pub fn decode_string(mount: usize, bytes: &[u8], code: u8) -> Option<String> {
     DECODE[mount](bytes, code)
@@ -37,7 +39,7 @@ macro_rules! decode {
     };
 }
 
-const DECODE: [fn(&[u8], u8) -> Option<String>; MOUNTS] = [
+const DECODE: [Decode; MOUNTS] = [
     decode!(text),
     decode!(text1),
     decode!(text2),

@@ -102,42 +102,48 @@ fn any_keys(rng: &mut Rng, count: u32, width: u32) -> Vec<u32> {
 }
 
 /// Puts a fault of keys, values or code points into a mapping of at least two entries in each list; no other.
-fn put_fault(rng: &mut Rng, mapping: &mut Mapping, (cause, list): Fault) {
+fn put_fault(rng: &mut Rng, mapping: &mut Mapping, fault: Fault) {
     let doubles = mapping.doubles.len() as u32;
-    let (entries, width) = match list {
+    let (entries, width) = match fault.1 {
         List::Singles => (&mut mapping.singles, 256),
         List::Pairs => (&mut mapping.pairs, 65_536),
         List::Doubles => (&mut mapping.doubles, 0),
     };
     let any = rng.below(entries.len());
     let at = rng.pick(&[0, any, entries.len() - 1]);
-    let part = if list == List::Doubles && rng.below(2) == 0 {
-        &mut entries[at].0
-    } else {
-        &mut entries[at].1
-    };
-    let far = rng.word() as u32;
-    match cause {
-        Cause::KeyRepeated => entries[at.max(1)].0 = entries[at.max(1) - 1].0,
+    let (last, next) = (entries.len() - 1, at.max(1));
+    match fault.0 {
+        Cause::CountMissing | Cause::CountBeyond | Cause::LeftOver => {}
+        Cause::KeyRepeated => entries[next].0 = entries[next - 1].0,
         Cause::KeyFalling => {
-            let at = at.max(1);
-            (entries[at].0, entries[at - 1].0) = (entries[at - 1].0, entries[at].0);
+            (entries[next].0, entries[next - 1].0) = (entries[next - 1].0, entries[next].0)
         }
         Cause::KeyWide => {
-            let last = entries.len() - 1;
-            entries[last].0 = rng.pick(&[width, width, width + 1, far.max(width), u32::MAX]);
+            let far = (rng.word() as u32).max(width);
+            entries[last].0 = rng.pick(&[width, width, width + 1, far, u32::MAX]);
         }
+        Cause::IndexBeyond | Cause::Surrogate | Cause::PointAbove => {
+            let word = bad_word(rng, fault, doubles);
+            let first = fault.1 == List::Doubles && rng.below(2) == 0;
+            *if first { &mut entries[at].0 } else { &mut entries[at].1 } = word;
+        }
+    }
+}
+
+/// A value, or a code point of a double, that is none beside so many doubles.
+fn bad_word(rng: &mut Rng, (cause, list): Fault, doubles: u32) -> u32 {
+    let far = rng.word() as u32;
+    match cause {
         Cause::IndexBeyond => {
             let index = rng.pick(&[doubles, doubles, doubles + 1, far % DOUBLE, DOUBLE - 1]);
-            *part = DOUBLE + index.max(doubles);
+            DOUBLE + index.max(doubles)
         }
-        Cause::Surrogate => *part = rng.pick(&[0xd800, 0xdfff, 0xd800 + far % 0x800]),
-        Cause::PointAbove => {
+        Cause::Surrogate => rng.pick(&[0xd800, 0xdfff, 0xd800 + far % 0x800]),
+        _ => {
             let above = (far % DOUBLE).max(0x11_0000);
             let index = if list == List::Doubles { DOUBLE + far % 4 } else { above };
-            *part = rng.pick(&[0x11_0000, 0x11_0000, above, DOUBLE - 1, index]);
+            rng.pick(&[0x11_0000, 0x11_0000, above, DOUBLE - 1, index])
         }
-        Cause::CountMissing | Cause::CountBeyond | Cause::LeftOver => {}
     }
 }
 

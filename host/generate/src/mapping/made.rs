@@ -42,7 +42,7 @@ pub fn held(rng: &mut Rng) -> Mapping {
     let keys = keys(rng, 1_200, |rng| {
         let [first, second] = [(); 2].map(|()| 0x20 + rng.below(0x5f) as u32);
         let any = rng.below(0x1_0000) as u32;
-        if rng.below(4) == 0 { any } else { first << 8 | second }
+        if rng.below(4) == 0 { any } else { 256 * first + second }
     });
     mapping.pairs = mapping.with_values(rng, keys);
     mapping.put_reserved(rng);
@@ -80,8 +80,10 @@ impl Mapping {
             2 => 7_000,
             _ => rng.below(600),
         };
-        let key =
-            |rng: &mut Rng| (first + rng.below(rows) as u32) % 256 << 8 | rng.below(256) as u32;
+        let key = |rng: &mut Rng| {
+            let first = (first + rng.below(rows) as u32) % 256;
+            256 * first + rng.below(256) as u32
+        };
         let keys = keys(rng, pairs.min(200 * rows), key);
         self.pairs = self.with_values(rng, keys);
     }

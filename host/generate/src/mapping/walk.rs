@@ -38,7 +38,7 @@ impl Mapping {
 
     fn element(&self, set: u8, bytes: &[u8], at: usize) -> Element {
         let byte = u32::from(bytes[at]);
-        let pair = bytes.get(at + 1).map(|&next| byte << 8 | u32::from(next));
+        let pair = bytes.get(at + 1).map(|&next| 256 * byte + u32::from(next));
         let held = pair.and_then(|key| value_of(&self.pairs, key));
         let reserved = set == 3 && pair.is_some_and(|key| RESERVED.contains(&key));
         let single = value_of(&self.singles, byte);
