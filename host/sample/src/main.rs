@@ -1,9 +1,10 @@
 //! Stores tables and discs, and what the customer's Rust answers to them, for the programs `replay`,
 //! `stored_tables` and `stored_discs`, which need no Rust; and a table with its items by the plain
 //! walk, for `draws`; and images with what the plain gathering gives of them, for `stored_images`.
-//! `--check` asks the Rust again about what is stored, and walks and gathers again; `--answers` stores
-//! what these answer, and leaves the tables and discs as they are stored; `--add` does that, and before it
-//! stores the tables and discs with a name that are not stored yet, behind the others.
+//! `--check` asks the Rust again about what is stored, and about the texts by a mapping that `vectors`
+//! prints, and walks and gathers again; `--answers` stores what these answer, and leaves the tables and
+//! discs as they are stored; `--add` does that, and before it stores the tables and discs with a name that
+//! are not stored yet, behind the others.
 //!
 //! Exit status: 0 all is written, or is what must be stored; 1 something else is stored; 2 bad
 //! usage, a file that cannot be read or written, or a walk whose items are not the Rust's texts.
@@ -11,6 +12,7 @@
 mod disc;
 mod draws;
 mod listing;
+mod mapped;
 mod named;
 mod runs;
 mod tape;
@@ -44,6 +46,9 @@ const DRAWS: &str = "draws/stdout";
 /// The images that are gathered and scattered, and what is printed of them.
 const IMAGES: &str = "stored_images/stdin";
 const IMAGE_LINES: &str = "stored_images/stdout";
+
+/// What `vectors` prints.
+const VECTORS: &str = "vectors/stdout";
 
 /// What the file of a table with a name ends in.
 const TABLE: &str = ".table";
@@ -185,6 +190,10 @@ fn check(crates: &Path) -> Result<u8> {
             println!("sample: {file} is not what must be stored");
             status = 1;
         }
+    }
+    if !fs::read_to_string(crates.join(VECTORS))?.contains(&mapped::lines()) {
+        println!("sample: {VECTORS} has other texts by a mapping");
+        status = 1;
     }
     Ok(status)
 }

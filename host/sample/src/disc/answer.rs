@@ -129,8 +129,8 @@ fn put_area(text: &mut String, area: &Area, table: &[u8], times: &StoredTimes) {
     }
 }
 
-/// The texts that are there: item index, refusal, length and digest. The Rust decodes sets 3 to 6
-/// too, by tables that are not at hand: the document's refusal 9 stands for them.
+/// The texts that are there: item index, refusal, length and digest. The program lends no mapping:
+/// the document's refusal 9 stands for texts of sets 3 to 6.
 fn put_texts<'a>(text: &mut String, texts: impl Iterator<Item = Option<&'a str>>, code: u8) {
     let held = Charset::from_code(code) == Charset::Latin1;
     for (item, found) in texts.enumerate() {
