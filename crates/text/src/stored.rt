@@ -48,7 +48,8 @@ fn decode_stored(
 {
     let set = charset(code);
     if set != LATIN_1 {
-        return decode_mapped(string_bytes(table, place), set, mapping, page);
+        let words = mapping.len();
+        return decode_mapped(string_bytes(table, place), set, &mapping[..words], page);
     }
     let window = string_window(table, place);
     let n = ascii_in(window);

@@ -7,7 +7,7 @@ use Prim.Native.Nat.{ℕ, _≤_}
 use native.Mathlib.Omega.{arith}
 use denote.Ref.{now}
 use lib.ListN.{length, getD, take}
-use lib.Seq.{length-take-le}
+use lib.Seq.{take-all, length-take-le}
 use borrow.Author.Needs.{needs}
 use Rattle.sectors.specs.Fill.{part}
 use Rattle.sectors.specs.Number.{beAt}
@@ -53,8 +53,8 @@ module _ {bytes string : List ℕ} (is : bytes ≡ string) (code : ℕ) (words p
   decodes e d = decode-same is code words page (d .0 ∙ sym (decode-by bytes code words e (length page)), d .1 ∙ sym (into-by bytes code words e page))
 
   module _ {set : ℕ} (named : set ≡ charsetOf code) {answer : DecodeAnswer} {last : List ℕ} where
-    by-mapping : (set ≡ latin1 → ⊥) → By (unlessAbsent bytes (mappedOf words set bytes)) answer last → Decodes answer last
-    by-mapping other = decodes (points-other bytes code words named other)
+    by-mapping : (set ≡ latin1 → ⊥) → {lent : List ℕ} → lent ≡ words → By (unlessAbsent bytes (mappedOf lent set bytes)) answer last → Decodes answer last
+    by-mapping other same = decodes (points-other bytes code words named other ∙ ap (λ (w : List ℕ). unlessAbsent bytes (mappedOf w set bytes)) (sym same))
 
     by-latin1 : set ≡ latin1 → By (gives bytes) answer last → Decodes answer last
     by-latin1 held = decodes (points-held bytes code words named held)
@@ -65,6 +65,9 @@ charset-requires c κs = search needs
 string-bytes-requires : tie.Need-string-bytes-requires
 string-bytes-requires c κs = search needs
 
+slice-aggregate-decode-mapped : tie.Need-slice-aggregate-decode-mapped
+slice-aggregate-decode-mapped c = sym (length-take-le _ _ (omega arith))
+
 decode-mapped-requires : tie.Need-decode-mapped-requires
 decode-mapped-requires c κs = search needs
 
@@ -73,8 +76,8 @@ same-length c = search needs
 
 returns : tie.Need-returns
 returns c =
-    let d = c .before .before in let b = d .before .before in let t = b .before in let k = t .before in let a = k .before .before .before .before .args in
-    by-mapping (b .string-bytes .ensures .0) (a .code) (now (a .mapping)) (now (a .page)) (k .charset .ensures) (t .if1 .taken) (d .decode-mapped .ensures)
+    let d = c .before .before in let b = d .before .before .before in let t = b .before in let k = t .before in let a = k .before .before .before .before .args in
+    by-mapping (b .string-bytes .ensures .0) (a .code) (now (a .mapping)) (now (a .page)) (k .charset .ensures) (t .if1 .taken) (take-all (length (now (a .mapping))) (now (a .mapping)) (omega arith)) (d .decode-mapped .ensures)
 
 string-window-requires : tie.Need-string-window-requires
 string-window-requires c κs = search needs
@@ -122,6 +125,7 @@ decode-stored-spec =
     (tie.spec
     charset-requires
     string-bytes-requires
+    slice-aggregate-decode-mapped
     decode-mapped-requires
     same-length
     returns
