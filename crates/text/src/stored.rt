@@ -49,7 +49,11 @@ fn decode_stored(
     let set = charset(code);
     if set != LATIN_1 {
         let words = mapping.len();
-        return decode_mapped(string_bytes(table, place), set, &mapping[..words], page);
+        let answer = decode_mapped(string_bytes(table, place), set, &mapping[..words], page);
+        return DecodeAnswer {
+            refusal: answer.refusal,
+            len: answer.len,
+        };
     }
     let window = string_window(table, place);
     let n = ascii_in(window);
