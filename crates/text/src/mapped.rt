@@ -121,8 +121,10 @@ fn put_mapped(bytes: &[u8], set: u8, words: &[u32], parts: Parts, page: &mut [u8
 
 // Decodes a string of set 3 to 6 by a mapping; an absent one without a look at it.
 pub(crate) fn decode_mapped(bytes: &[u8], set: u8, words: &[u32], page: &mut [u8]) -> DecodeAnswer
-    ensures answer { λ r. ⌜ r ≡ answerIn (length (now (page .entry))) (unlessAbsent (now (bytes .entry)) (mappedOf (now (words .entry)) set (now (bytes .entry)))) ⌝ }
-    ensures filled { λ r. ⌜ now (page .exit) ≡ pageWith (unlessAbsent (now (bytes .entry)) (mappedOf (now (words .entry)) set (now (bytes .entry)))) (now (page .entry)) ⌝ }
+    ensures answer { λ r. ⌜
+        r ≡ answerIn (length (now (page .entry))) (unlessAbsent (now (bytes .entry)) (mappedOf (now (words .entry)) set (now (bytes .entry)))) ⌝ }
+    ensures filled { λ r. ⌜
+        now (page .exit) ≡ pageWith (unlessAbsent (now (bytes .entry)) (mappedOf (now (words .entry)) set (now (bytes .entry)))) (now (page .entry)) ⌝ }
 {
     if bytes.len() == 0 {
         return DecodeAnswer { refusal: 0, len: 0 };
