@@ -1,4 +1,4 @@
-//! Lists of words: those of small mappings, with one thing wrong or more, and any.
+//! Lists of words: those of mappings, mostly small ones, with one thing wrong or more, and any.
 
 use super::made::any_point;
 use super::valid::{Cause, Fault, List};
@@ -84,16 +84,20 @@ fn any_mapping(rng: &mut Rng, least: usize) -> Mapping {
     Mapping { singles, pairs, doubles }
 }
 
-/// Keys that rise, in steps of one or more, now and then from the first on or to the last.
+/// Keys that rise, in steps of one or more, now and then up to the last that there is.
 fn any_keys(rng: &mut Rng, count: u32, width: u32) -> Vec<u32> {
     let mut free = width - count;
     let mut next = 0;
     let mut keys = vec![];
     let to_the_last = rng.below(4) == 0;
     for left in (0..count).rev() {
-        let most =
-            if to_the_last && left == 0 { free } else { rng.below(free as usize + 1) as u32 };
-        let skipped = if to_the_last && left == 0 { most } else { rng.pick(&[0, 0, most]) };
+        let skipped = match left {
+            0 if to_the_last => free,
+            _ => {
+                let any = rng.below(free as usize + 1) as u32;
+                rng.pick(&[0, 0, any])
+            }
+        };
         free -= skipped;
         keys.push(next + skipped);
         next += skipped + 1;

@@ -128,7 +128,7 @@ impl Mapping {
     }
 }
 
-/// So many keys, at most as many as there are.
+/// So many keys, no more than there are.
 fn keys(rng: &mut Rng, count: usize, key: impl Fn(&mut Rng) -> u32) -> BTreeSet<u32> {
     let mut keys = BTreeSet::new();
     while keys.len() < count {
