@@ -130,7 +130,9 @@ pub fn decode_track_text(
     mapping: &[u32],
     page: &mut [u8],
 ) -> DecodeAnswer
-    ensures { λ r. ⌜ (r ≡ textAnswer (trackTextBy (now (table .entry)) area (now (tracks .entry)) number item) (now (mapping .entry)) (length (now (page .entry)))) × (now (page .exit) ≡ textPage (trackTextBy (now (table .entry)) area (now (tracks .entry)) number item) (now (mapping .entry)) (now (page .entry))) ⌝ }
+    ensures { λ r. ⌜
+        (r ≡ textAnswer (trackTextBy (now (table .entry)) area (now (tracks .entry)) number item) (now (mapping .entry)) (length (now (page .entry))))
+        × (now (page .exit) ≡ textPage (trackTextBy (now (table .entry)) area (now (tracks .entry)) number item) (now (mapping .entry)) (now (page .entry))) ⌝ }
 {
     let place = place_at(tracks, track_index(number), item);
     decode_of_track(

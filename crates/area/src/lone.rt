@@ -64,7 +64,9 @@ fn refuse(refusal: u8) -> Plan
 
 // Checks a lone table and the room for its tracks, and reads its head; its warnings are written.
 pub(crate) fn plan_table(table: &[u8], room: usize, words: &mut [u32]) -> Plan
-    ensures { λ r. ⌜ (r ≡ planOf (now (table .entry)) room (length (now (words .entry)))) × (now (words .exit) ≡ planWords (now (table .entry)) room (now (words .entry))) ⌝ }
+    ensures { λ r. ⌜
+        (r ≡ planOf (now (table .entry)) room (length (now (words .entry))))
+        × (now (words .exit) ≡ planWords (now (table .entry)) room (now (words .entry))) ⌝ }
 {
     if is_odd_table(table.len()) {
         return refuse(ODD_TABLE);
@@ -97,7 +99,10 @@ pub(crate) fn table_answer(plan: Plan, warnings: usize) -> TableAnswer
 // Reads a lone table: its area's record, its tracks into a list of at least 255, its warnings into at least 1,021 words. Refusals other
 // than 6 change nothing.
 pub fn read_table(table: &[u8], tracks: &mut [Track], words: &mut [u32]) -> TableAnswer
-    ensures { λ r. ⌜ (r ≡ loneAnswer (loneOf (now (table .entry)) (length (now (tracks .entry))) (length (now (words .entry))))) × ((now (tracks .exit) ≡ loneTracks (loneOf (now (table .entry)) (length (now (tracks .entry))) (length (now (words .entry)))) (now (tracks .entry))) × (now (words .exit) ≡ loneWords (loneOf (now (table .entry)) (length (now (tracks .entry))) (length (now (words .entry)))) (now (words .entry)))) ⌝ }
+    ensures { λ r. ⌜
+        (r ≡ loneAnswer (loneOf (now (table .entry)) (length (now (tracks .entry))) (length (now (words .entry)))))
+        × ((now (tracks .exit) ≡ loneTracks (loneOf (now (table .entry)) (length (now (tracks .entry))) (length (now (words .entry)))) (now (tracks .entry)))
+        × (now (words .exit) ≡ loneWords (loneOf (now (table .entry)) (length (now (tracks .entry))) (length (now (words .entry)))) (now (words .entry)))) ⌝ }
 {
     let plan = plan_table(table, tracks.len(), words);
     let head = plan.head;

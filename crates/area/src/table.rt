@@ -190,7 +190,10 @@ pub fn next_track(
     words: &mut [u32],
     count: usize,
 ) -> NextTrack
-    ensures { λ r. ⌜ (r .track ≡ readIn (now (lent .entry)) head i .track) × (r .count ≡ counted (now (words .entry)) count (trackWarnings (head .area .origin .slot) (readIn (now (lent .entry)) head i))) × (now (words .exit) ≡ sets (now (words .entry)) count (map wordOf (trackWarnings (head .area .origin .slot) (readIn (now (lent .entry)) head i)))) ⌝ }
+    ensures { λ r. ⌜
+        (r .track ≡ readIn (now (lent .entry)) head i .track)
+        × (r .count ≡ counted (now (words .entry)) count (trackWarnings (head .area .origin .slot) (readIn (now (lent .entry)) head i)))
+        × (now (words .exit) ≡ sets (now (words .entry)) count (map wordOf (trackWarnings (head .area .origin .slot) (readIn (now (lent .entry)) head i)))) ⌝ }
 {
     let area = head.area;
     let origin = area.origin;

@@ -54,7 +54,10 @@ pub fn fill_tracks(
     words: &mut [u32],
     count: usize,
 ) -> usize
-    ensures { λ r. ⌜ (r ≡ counted (now (words .entry)) count (warningsIn (now (lent .entry)) head)) × ((now (tracks .exit) ≡ sets (now (tracks .entry)) base (tracksIn (now (lent .entry)) head)) × (now (words .exit) ≡ sets (now (words .entry)) count (map wordOf (warningsIn (now (lent .entry)) head)))) ⌝ }
+    ensures { λ r. ⌜
+        (r ≡ counted (now (words .entry)) count (warningsIn (now (lent .entry)) head))
+        × ((now (tracks .exit) ≡ sets (now (tracks .entry)) base (tracksIn (now (lent .entry)) head))
+        × (now (words .exit) ≡ sets (now (words .entry)) count (map wordOf (warningsIn (now (lent .entry)) head)))) ⌝ }
 {
     let n = track_count(head);
     let mut at = base as usize;

@@ -128,7 +128,9 @@ pub fn decode_disc_track_text(
     mapping: &[u32],
     page: &mut [u8],
 ) -> DecodeAnswer
-    ensures { λ r. ⌜ (r ≡ textAnswer (trackTextAt (now (work .entry)) area (now (tracks .entry)) number item) (now (mapping .entry)) (length (now (page .entry)))) × (now (page .exit) ≡ textPage (trackTextAt (now (work .entry)) area (now (tracks .entry)) number item) (now (mapping .entry)) (now (page .entry))) ⌝ }
+    ensures { λ r. ⌜
+        (r ≡ textAnswer (trackTextAt (now (work .entry)) area (now (tracks .entry)) number item) (now (mapping .entry)) (length (now (page .entry))))
+        × (now (page .exit) ≡ textPage (trackTextAt (now (work .entry)) area (now (tracks .entry)) number item) (now (mapping .entry)) (now (page .entry))) ⌝ }
 {
     let place = place_at(tracks, track_place(area, number), item);
     decode_of_disc_track(work, area, tracks.len(), place, number, item, mapping, page)

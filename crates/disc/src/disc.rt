@@ -3,7 +3,6 @@ ghost use mathlib.Core.Path.{_≡_};
 ghost use mathlib.Core.List.{map};
 ghost use lib.ListN.{length};
 ghost use lib.Seq.{sets};
-ghost use Rattle.area.specs.Lent.{counted};
 ghost use Rattle.area.specs.Warning.{wordOf};
 ghost use Rattle.sectors.specs.Source.{imageSource};
 ghost use Rattle.disc.specs.Disc.{imageMaster, readDisc};
@@ -49,7 +48,10 @@ pub(crate) fn open(
     records: usize,
     words: &mut [u32],
 ) -> Opened
-    ensures { λ r. ⌜ (r ≡ openedOf (imageSource format (now (image .entry))) (imageMaster format (now (image .entry)) (length (now (work .entry))) records (length (now (words .entry))))) × ((now (work .exit) ≡ openedWork (imageSource format (now (image .entry))) (imageMaster format (now (image .entry)) (length (now (work .entry))) records (length (now (words .entry)))) (now (work .entry))) × (now (words .exit) ≡ openedWords (imageSource format (now (image .entry))) (imageMaster format (now (image .entry)) (length (now (work .entry))) records (length (now (words .entry)))) (now (words .entry)))) ⌝ }
+    ensures { λ r. ⌜
+        (r ≡ openedOf (imageSource format (now (image .entry))) (imageMaster format (now (image .entry)) (length (now (work .entry))) records (length (now (words .entry)))))
+        × ((now (work .exit) ≡ openedWork (imageSource format (now (image .entry))) (imageMaster format (now (image .entry)) (length (now (work .entry))) records (length (now (words .entry)))) (now (work .entry)))
+        × (now (words .exit) ≡ openedWords (imageSource format (now (image .entry))) (imageMaster format (now (image .entry)) (length (now (work .entry))) records (length (now (words .entry)))) (now (words .entry)))) ⌝ }
 {
     let refusal = open_refusal(format, image, work.len(), records, words.len());
     if refusal != 0 {
@@ -90,7 +92,10 @@ fn read_slot(
     words: &mut [u32],
     count: usize,
 ) -> SlotRead
-    ensures { λ r. ⌜ (r ≡ slotReadBy (now (work .entry)) slot copies (now (words .entry)) count) × ((now (tracks .exit) ≡ sets (now (tracks .entry)) (tracksFrom slot) (slotTracks (now (work .entry)) slot copies)) × (now (words .exit) ≡ sets (now (words .entry)) count (map wordOf (slotNotes (now (work .entry)) slot copies)))) ⌝ }
+    ensures { λ r. ⌜
+        (r ≡ slotReadBy (now (work .entry)) slot copies (now (words .entry)) count)
+        × ((now (tracks .exit) ≡ sets (now (tracks .entry)) (tracksFrom slot) (slotTracks (now (work .entry)) slot copies))
+        × (now (words .exit) ≡ sets (now (words .entry)) count (map wordOf (slotNotes (now (work .entry)) slot copies)))) ⌝ }
 {
     let plan = plan_slot(work, slot, copies, words, count);
     let head = plan.head;
@@ -114,7 +119,11 @@ pub fn read_disc(
     tracks: &mut [Track],
     words: &mut [u32],
 ) -> DiscAnswer
-    ensures { λ r. ⌜ (r ≡ readDisc format (now (image .entry)) (record { work = now (work .entry); tracks = now (tracks .entry); words = now (words .entry) }) .answer) × ((now (work .exit) ≡ readDisc format (now (image .entry)) (record { work = now (work .entry); tracks = now (tracks .entry); words = now (words .entry) }) .memory .work) × ((now (tracks .exit) ≡ readDisc format (now (image .entry)) (record { work = now (work .entry); tracks = now (tracks .entry); words = now (words .entry) }) .memory .tracks) × (now (words .exit) ≡ readDisc format (now (image .entry)) (record { work = now (work .entry); tracks = now (tracks .entry); words = now (words .entry) }) .memory .words))) ⌝ }
+    ensures { λ r. ⌜
+        (r ≡ readDisc format (now (image .entry)) (record { work = now (work .entry); tracks = now (tracks .entry); words = now (words .entry) }) .answer)
+        × ((now (work .exit) ≡ readDisc format (now (image .entry)) (record { work = now (work .entry); tracks = now (tracks .entry); words = now (words .entry) }) .memory .work)
+        × ((now (tracks .exit) ≡ readDisc format (now (image .entry)) (record { work = now (work .entry); tracks = now (tracks .entry); words = now (words .entry) }) .memory .tracks)
+        × (now (words .exit) ≡ readDisc format (now (image .entry)) (record { work = now (work .entry); tracks = now (tracks .entry); words = now (words .entry) }) .memory .words))) ⌝ }
 {
     let opened = open(format, image, work, tracks.len(), words);
     let tables: &[u8] = work;

@@ -104,7 +104,9 @@ pub(crate) fn plan_slot(
     words: &mut [u32],
     count: usize,
 ) -> SlotPlan
-    ensures { λ r. ⌜ (r ≡ slotPlanOf (now (work .entry)) slot copies (now (words .entry)) count) × (now (words .exit) ≡ sets (now (words .entry)) count (map wordOf (planWarnings (now (work .entry)) slot copies))) ⌝ }
+    ensures { λ r. ⌜
+        (r ≡ slotPlanOf (now (work .entry)) slot copies (now (words .entry)) count)
+        × (now (words .exit) ≡ sets (now (words .entry)) count (map wordOf (planWarnings (now (work .entry)) slot copies))) ⌝ }
 {
     let n = push_copies(words, count, slot, copies);
     if !(copies.toc1 | copies.toc2) {

@@ -36,7 +36,11 @@ pub fn read_disc_by_value(
     tracks: [Track; TRACK_RECORDS],
     words: &mut [u32],
 ) -> Reading
-    ensures { λ r. ⌜ (r .answer ≡ readDisc format (now (image .entry)) (record { work = now (work .entry); tracks = tracks; words = now (words .entry) }) .answer) × ((now (work .exit) ≡ readDisc format (now (image .entry)) (record { work = now (work .entry); tracks = tracks; words = now (words .entry) }) .memory .work) × ((r .tracks ≡ readDisc format (now (image .entry)) (record { work = now (work .entry); tracks = tracks; words = now (words .entry) }) .memory .tracks) × (now (words .exit) ≡ readDisc format (now (image .entry)) (record { work = now (work .entry); tracks = tracks; words = now (words .entry) }) .memory .words))) ⌝ }
+    ensures { λ r. ⌜
+        (r .answer ≡ readDisc format (now (image .entry)) (record { work = now (work .entry); tracks = tracks; words = now (words .entry) }) .answer)
+        × ((now (work .exit) ≡ readDisc format (now (image .entry)) (record { work = now (work .entry); tracks = tracks; words = now (words .entry) }) .memory .work)
+        × ((r .tracks ≡ readDisc format (now (image .entry)) (record { work = now (work .entry); tracks = tracks; words = now (words .entry) }) .memory .tracks)
+        × (now (words .exit) ≡ readDisc format (now (image .entry)) (record { work = now (work .entry); tracks = tracks; words = now (words .entry) }) .memory .words))) ⌝ }
 {
     let mut list = tracks;
     let answer = read_disc(format, image, work, &mut list, words);
@@ -56,7 +60,9 @@ pub fn decode_track_text_by_value(
     mapping: &[u32],
     page: &mut [u8],
 ) -> DecodeAnswer
-    ensures { λ r. ⌜ (r ≡ textAnswer (trackTextAt (now (work .entry)) area tracks number item) (now (mapping .entry)) (length (now (page .entry)))) × (now (page .exit) ≡ textPage (trackTextAt (now (work .entry)) area tracks number item) (now (mapping .entry)) (now (page .entry))) ⌝ }
+    ensures { λ r. ⌜
+        (r ≡ textAnswer (trackTextAt (now (work .entry)) area tracks number item) (now (mapping .entry)) (length (now (page .entry))))
+        × (now (page .exit) ≡ textPage (trackTextAt (now (work .entry)) area tracks number item) (now (mapping .entry)) (now (page .entry))) ⌝ }
 {
     decode_disc_track_text(work, area, &tracks, number, item, mapping, page)
 }

@@ -344,7 +344,10 @@ pub extern "C" fn scarletbook_read_table(
     tracks: &mut [Track],
     words: &mut [u32],
 ) -> TableAnswer
-    ensures { λ r. ⌜ (r ≡ loneAnswer (loneOf (now (table .entry)) (length (now (tracks .entry))) (length (now (words .entry))))) × ((now (tracks .exit) ≡ loneTracks (loneOf (now (table .entry)) (length (now (tracks .entry))) (length (now (words .entry)))) (now (tracks .entry))) × (now (words .exit) ≡ loneWords (loneOf (now (table .entry)) (length (now (tracks .entry))) (length (now (words .entry)))) (now (words .entry)))) ⌝ }
+    ensures { λ r. ⌜
+        (r ≡ loneAnswer (loneOf (now (table .entry)) (length (now (tracks .entry))) (length (now (words .entry)))))
+        × ((now (tracks .exit) ≡ loneTracks (loneOf (now (table .entry)) (length (now (tracks .entry))) (length (now (words .entry)))) (now (tracks .entry)))
+        × (now (words .exit) ≡ loneWords (loneOf (now (table .entry)) (length (now (tracks .entry))) (length (now (words .entry)))) (now (words .entry)))) ⌝ }
 {
     area::lone::read_table(table, tracks, words)
 }
@@ -367,7 +370,11 @@ pub extern "C" fn scarletbook_read_disc(
     tracks: &mut [Track],
     words: &mut [u32],
 ) -> DiscAnswer
-    ensures { λ r. ⌜ (r ≡ readDisc format (now (image .entry)) (record { work = now (work .entry); tracks = now (tracks .entry); words = now (words .entry) }) .answer) × ((now (work .exit) ≡ readDisc format (now (image .entry)) (record { work = now (work .entry); tracks = now (tracks .entry); words = now (words .entry) }) .memory .work) × ((now (tracks .exit) ≡ readDisc format (now (image .entry)) (record { work = now (work .entry); tracks = now (tracks .entry); words = now (words .entry) }) .memory .tracks) × (now (words .exit) ≡ readDisc format (now (image .entry)) (record { work = now (work .entry); tracks = now (tracks .entry); words = now (words .entry) }) .memory .words))) ⌝ }
+    ensures { λ r. ⌜
+        (r ≡ readDisc format (now (image .entry)) (record { work = now (work .entry); tracks = now (tracks .entry); words = now (words .entry) }) .answer)
+        × ((now (work .exit) ≡ readDisc format (now (image .entry)) (record { work = now (work .entry); tracks = now (tracks .entry); words = now (words .entry) }) .memory .work)
+        × ((now (tracks .exit) ≡ readDisc format (now (image .entry)) (record { work = now (work .entry); tracks = now (tracks .entry); words = now (words .entry) }) .memory .tracks)
+        × (now (words .exit) ≡ readDisc format (now (image .entry)) (record { work = now (work .entry); tracks = now (tracks .entry); words = now (words .entry) }) .memory .words))) ⌝ }
 {
     disc::disc::read_disc(format, image, work, tracks, words)
 }
@@ -398,7 +405,9 @@ pub extern "C" fn scarletbook_decode_track_text(
     mapping: &[u32],
     page: &mut [u8],
 ) -> DecodeAnswer
-    ensures { λ r. ⌜ (r ≡ textAnswer (trackTextBy (now (table .entry)) area (now (tracks .entry)) number item) (now (mapping .entry)) (length (now (page .entry)))) × (now (page .exit) ≡ textPage (trackTextBy (now (table .entry)) area (now (tracks .entry)) number item) (now (mapping .entry)) (now (page .entry))) ⌝ }
+    ensures { λ r. ⌜
+        (r ≡ textAnswer (trackTextBy (now (table .entry)) area (now (tracks .entry)) number item) (now (mapping .entry)) (length (now (page .entry))))
+        × (now (page .exit) ≡ textPage (trackTextBy (now (table .entry)) area (now (tracks .entry)) number item) (now (mapping .entry)) (now (page .entry))) ⌝ }
 {
     area::decode::decode_track_text(table, area, tracks, number, item, mapping, page)
 }
@@ -444,7 +453,9 @@ pub extern "C" fn scarletbook_decode_disc_track_text(
     mapping: &[u32],
     page: &mut [u8],
 ) -> DecodeAnswer
-    ensures { λ r. ⌜ (r ≡ textAnswer (trackTextAt (now (work .entry)) area (now (tracks .entry)) number item) (now (mapping .entry)) (length (now (page .entry)))) × (now (page .exit) ≡ textPage (trackTextAt (now (work .entry)) area (now (tracks .entry)) number item) (now (mapping .entry)) (now (page .entry))) ⌝ }
+    ensures { λ r. ⌜
+        (r ≡ textAnswer (trackTextAt (now (work .entry)) area (now (tracks .entry)) number item) (now (mapping .entry)) (length (now (page .entry))))
+        × (now (page .exit) ≡ textPage (trackTextAt (now (work .entry)) area (now (tracks .entry)) number item) (now (mapping .entry)) (now (page .entry))) ⌝ }
 {
     disc::decode::decode_disc_track_text(work, area, tracks, number, item, mapping, page)
 }

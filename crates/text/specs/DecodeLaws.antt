@@ -62,6 +62,15 @@ unfoldable refusal-number : Decoded → ℕ
 refusal-number (refused number) = suc number
 refusal-number (gives points) = zero
 
+-- the code points, if there is none
+unfoldable points-in : Decoded → List ℕ
+points-in (refused number) = []
+points-in (gives points) = points
+
+-- the bytes of their text
+unfoldable size-in : Decoded → ℕ
+size-in d = length (encoded (points-in d))
+
 -- what an absent text gives, and a present one
 module _ (bytes : List ℕ) (given : Decoded) where
   pub absent-is : length bytes ≡ 0 → unlessAbsent bytes given ≡ gives []
@@ -235,17 +244,22 @@ module _ (bytes : List ℕ) (code : ℕ) (words : List ℕ) where
       of-bytes zero z = absent z (points-absent z)
       of-bytes (suc n) z = of-set (omega arith) (isMapped (setOf code)) refl
 
-  -- it is 9 or 12
-  refused-not-ten : (number : ℕ) → pointsOf bytes code words ≡ refused number → number ≡ shortPage → ⊥
+  -- what is refused before the page is looked at: no words with 9, such as are no mapping with 12
+  data Unmapped (number : ℕ) : Type 0 where
+    nine : number ≡ setNotHeld → length words ≡ 0 → Unmapped number
+    twelve : number ≡ badMapping → (length words ≡ 0 → ⊥) → isMapping words ≡ false → Unmapped number
+
+  -- and only of a present text of set 3 to 6
+  points-refused : (number : ℕ) → pointsOf bytes code words ≡ refused number → (0 < length bytes) × (isMapped (setOf code) ≡ true) × Unmapped number
   unfolding refusal-number
-  refused-not-ten number e ten = go source
+  points-refused number e = go source
     where
-      go : Source → ⊥
-      go (absent none is) = omega (arith, ap refusal-number (sym e ∙ is))
-      go (of-latin1 m is) = omega (arith, ap refusal-number (sym e ∙ is))
-      go (no-words is-present m none is) = omega (arith, ap refusal-number (sym e ∙ is))
-      go (no-mapping is-present m some bad is) = omega (arith, ap refusal-number (sym e ∙ is))
-      go (by-mapping good is) = omega (arith, ap refusal-number (sym e ∙ is))
+      go : Source → (0 < length bytes) × (isMapped (setOf code) ≡ true) × Unmapped number
+      go (absent none is) = absurd (omega (arith, ap refusal-number (sym e ∙ is)))
+      go (of-latin1 m is) = absurd (omega (arith, ap refusal-number (sym e ∙ is)))
+      go (no-words is-present m none is) = (is-present, m, nine (omega (arith, ap refusal-number (sym e ∙ is))) none)
+      go (no-mapping is-present m some bad is) = (is-present, m, twelve (omega (arith, ap refusal-number (sym e ∙ is))) some bad)
+      go (by-mapping good is) = absurd (omega (arith, ap refusal-number (sym e ∙ is)))
 
   -- what is refused with 9 or 12 is refused before the page is looked at
   refused-points : (number : ℕ) → (number ≡ shortPage → ⊥) → (number ≡ 0 → ⊥) → (size : ℕ) → decodeOf bytes code words size .refusal ≡ number
@@ -265,18 +279,12 @@ module _ (bytes : List ℕ) (code : ℕ) (words : List ℕ) where
 
   pub nine-only : (size : ℕ) → decodeOf bytes code words size .refusal ≡ setNotHeld
       → (0 < length bytes) × (isMapped (setOf code) ≡ true) × (length words ≡ 0)
-  unfolding refusal-number
-  nine-only size nine = go source
+  nine-only size is-nine =
+      let r = points-refused setNotHeld (refused-points setNotHeld (λ z. omega arith) (λ z. omega arith) size is-nine) in (r .0, r .1, go (r .2))
     where
-      e : pointsOf bytes code words ≡ refused setNotHeld
-      e = refused-points setNotHeld (λ z. omega arith) (λ z. omega arith) size nine
-
-      go : Source → (0 < length bytes) × (isMapped (setOf code) ≡ true) × (length words ≡ 0)
-      go (absent none is) = absurd (omega (arith, ap refusal-number (sym e ∙ is)))
-      go (of-latin1 m is) = absurd (omega (arith, ap refusal-number (sym e ∙ is)))
-      go (no-words is-present m none is) = (is-present, m, none)
-      go (no-mapping is-present m some bad is) = absurd (omega (arith, ap refusal-number (sym e ∙ is)))
-      go (by-mapping good is) = absurd (omega (arith, ap refusal-number (sym e ∙ is)))
+      go : Unmapped setNotHeld → length words ≡ 0
+      go (nine e none) = none
+      go (twelve e some bad) = absurd (omega arith)
 
   -- "12, only for a present text of set 3 to 6, a mapping with a count missing ..; after 9", and then always
   pub twelve-comes : 0 < length bytes → isMapped (setOf code) ≡ true → (length words ≡ 0 → ⊥) → isMapping words ≡ false → (size : ℕ)
@@ -286,18 +294,13 @@ module _ (bytes : List ℕ) (code : ℕ) (words : List ℕ) where
 
   pub twelve-only : (size : ℕ) → decodeOf bytes code words size .refusal ≡ badMapping
       → (0 < length bytes) × (isMapped (setOf code) ≡ true) × (length words ≡ 0 → ⊥) × (isMapping words ≡ false)
-  unfolding refusal-number
-  twelve-only size twelve = go source
+  twelve-only size is-twelve =
+      let r = points-refused badMapping (refused-points badMapping (λ z. omega arith) (λ z. omega arith) size is-twelve) in
+      let w = go (r .2) in (r .0, r .1, w .0, w .1)
     where
-      e : pointsOf bytes code words ≡ refused badMapping
-      e = refused-points badMapping (λ z. omega arith) (λ z. omega arith) size twelve
-
-      go : Source → (0 < length bytes) × (isMapped (setOf code) ≡ true) × (length words ≡ 0 → ⊥) × (isMapping words ≡ false)
-      go (absent none is) = absurd (omega (arith, ap refusal-number (sym e ∙ is)))
-      go (of-latin1 m is) = absurd (omega (arith, ap refusal-number (sym e ∙ is)))
-      go (no-words is-present m none is) = absurd (omega (arith, ap refusal-number (sym e ∙ is)))
-      go (no-mapping is-present m some bad is) = (is-present, m, some, bad)
-      go (by-mapping good is) = absurd (omega (arith, ap refusal-number (sym e ∙ is)))
+      go : Unmapped badMapping → (length words ≡ 0 → ⊥) × (isMapping words ≡ false)
+      go (nine e none) = absurd (omega arith)
+      go (twelve e some bad) = (some, bad)
 
   -- "10 | short page | decoded text longer than the page lent", and only then
   pub ten-comes : (points : List ℕ) → pointsOf bytes code words ≡ gives points → (size : ℕ) → size < length (encoded points)
@@ -309,8 +312,12 @@ module _ (bytes : List ℕ) (code : ℕ) (words : List ℕ) where
   unfolding refusing giving
   ten-only size ten = go (decode-case size)
     where
+      not-ten : {number : ℕ} → Unmapped number → number ≡ shortPage → ⊥
+      not-ten (nine e none) z = omega arith
+      not-ten (twelve e some bad) z = omega arith
+
       go : Case size → (points : List ℕ) × (pointsOf bytes code words ≡ gives points) × (size < length (encoded points))
-      go (is-refused number e) = absurd (refused-not-ten number e (sym (refusals (decode-refused number e size)) ∙ ten))
+      go (is-refused number e) = absurd (not-ten (points-refused number e .2) (sym (refusals (decode-refused number e size)) ∙ ten))
       go (too-long points e h) = (points, e, h)
       go (fitting points e h) = absurd (omega (arith, sym ten ∙ refusals (decode-by e size ∙ answer-fits points size h)))
 
@@ -318,15 +325,11 @@ module _ (bytes : List ℕ) (code : ℕ) (words : List ℕ) where
   -- a present one has at least a byte, and no text more than eight for each byte of its string
   text-size : (points : List ℕ) → pointsOf bytes code words ≡ gives points
       → (0 < length bytes → 0 < length (encoded points)) × (length (encoded points) ≤ 8 * length bytes)
-  unfolding refusal-number
+  unfolding refusal-number points-in size-in
   text-size points e = go source
     where
-      size-of : Decoded → ℕ
-      size-of (refused number) = zero
-      size-of (gives points) = length (encoded points)
-
-      same : {d : Decoded} → pointsOf bytes code words ≡ d → length (encoded points) ≡ size-of d
-      same is = ap size-of (sym e ∙ is)
+      same : {d : Decoded} → pointsOf bytes code words ≡ d → length (encoded points) ≡ size-in d
+      same is = ap size-in (sym e ∙ is)
 
       refuses : {number : ℕ} → pointsOf bytes code words ≡ refused number → ⊥
       refuses is = omega (arith, ap refusal-number (sym e ∙ is))
@@ -350,23 +353,16 @@ module _ (bytes : List ℕ) (code : ℕ) (words : List ℕ) where
   -- of Latin-1 one of twice the bytes is not
   pub twice-is-enough : isMapped (setOf code) ≡ false → ((i : ℕ) → getD bytes i 0 < 256) → (size : ℕ) → 2 * length bytes ≤ size
       → decodeOf bytes code words size .refusal ≡ shortPage → ⊥
+  unfolding points-in size-in
   twice-is-enough held small size room ten =
       let t = ten-only size ten in
-      omega (arith, t .2, latin1-length bytes small, ap size-of (sym (points-latin1 held) ∙ t .1))
-    where
-      size-of : Decoded → ℕ
-      size-of (refused number) = zero
-      size-of (gives points) = length (encoded points)
+      omega (arith, t .2, latin1-length bytes small, ap size-in (sym (points-latin1 held) ∙ t .1))
 
   -- ---- what decoding gives is Unicode: no surrogate, none above hexadecimal 10FFFF
   pub gives-sound : ((i : ℕ) → getD bytes i 0 < 256) → (points : List ℕ) → pointsOf bytes code words ≡ gives points → allPoints points ≡ true
-  unfolding allPoints
+  unfolding allPoints points-in
   gives-sound small points e = go source
     where
-      points-in : Decoded → List ℕ
-      points-in (refused number) = []
-      points-in (gives points) = points
-
       same : {d : Decoded} → pointsOf bytes code words ≡ d → points ≡ points-in d
       same is = ap points-in (sym e ∙ is)
 

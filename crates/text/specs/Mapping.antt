@@ -49,8 +49,8 @@ unfoldable pub doubleCount : List ℕ → ℕ
 doubleCount words = countAt words (doublesAt words)
 
 -- ---- whether words are a mapping
--- "a count missing or beyond its words", "or words left over", "no words follow": none of these. (Where a count is beyond its words the next is missing, or the end is
--- past the words.)
+-- "a count missing or beyond its words", "or words left over", "no words follow": none of these. (Where a count is beyond its words the next is
+-- missing, or the end is past the words.)
 unfoldable pub isWhole : List ℕ → Bool
 isWhole words =
     ltb singlesAt (length words) && ltb (pairsAt words) (length words) && ltb (doublesAt words) (length words) && eqb (wordsEnd words) (length words)

@@ -36,6 +36,7 @@ fn ascii_in(bytes: &[u8]) -> usize
 }
 
 // Decodes the string at a place of a table. In Latin-1 the end of an ASCII string is found in one pass; one that is not ASCII is sought anew.
+// The mapping is lent on as a part, and its answer given field by field: so neither is copied whole where the set is Latin-1.
 fn decode_stored(
     table: &[u8],
     place: usize,
