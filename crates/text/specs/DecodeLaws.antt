@@ -62,7 +62,7 @@ unfoldable refusal-number : Decoded → ℕ
 refusal-number (refused number) = suc number
 refusal-number (gives points) = zero
 
--- the code points, if there is none
+-- the code points; of a refusal none
 unfoldable points-in : Decoded → List ℕ
 points-in (refused number) = []
 points-in (gives points) = points
