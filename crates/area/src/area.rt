@@ -27,7 +27,7 @@ const AREA_TEXTS_OFFSET: usize = 144;
 
 // Where an area's table came from: its slot, its address and its sectors.
 #[repr(C)]
-#[derive(Drop)]
+#[derive(Clone, Copy)]
 pub struct TableOrigin {
     pub slot: u8,
     pub toc_lsn: Lsn,
@@ -36,7 +36,7 @@ pub struct TableOrigin {
 
 // A structure version number.
 #[repr(C)]
-#[derive(Drop)]
+#[derive(Clone, Copy)]
 pub struct Version {
     pub major: u8,
     pub minor: u8,
@@ -44,7 +44,7 @@ pub struct Version {
 
 // The record of an area; all zero where there is none. Flags are 0 or 1.
 #[repr(C)]
-#[derive(Drop)]
+#[derive(Clone, Copy)]
 pub struct Area {
     pub present: u8,
     pub origin: TableOrigin,

@@ -6,7 +6,7 @@ use crate::timecode::Frame;
 
 // What is kept of a track's times, and whether they went past the play time.
 #[repr(C)]
-#[derive(Drop)]
+#[derive(Clone, Copy)]
 pub struct Capped {
     pub start_frame: Frame,
     pub duration_frames: Frame,

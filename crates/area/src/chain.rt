@@ -8,7 +8,7 @@ use sectors::signature::{SIGNATURE_SIZE, has_signature};
 
 // Where a table's sub-structures begin that the walk keeps; 0 for one that it did not meet.
 #[repr(C)]
-#[derive(Drop)]
+#[derive(Clone, Copy)]
 pub struct Chain {
     pub ttxt: u32,
     pub igl: u32,
@@ -17,7 +17,7 @@ pub struct Chain {
 }
 
 // What stands at a place of the walk.
-#[derive(Drop)]
+#[derive(Clone, Copy)]
 pub(crate) enum Structure {
     TrackText,
     IsrcGenre,

@@ -8,7 +8,7 @@ use crate::bytes::part_of;
 use crate::items::draw_at;
 
 // The table, the place of the next item, and how many items are left.
-#[derive(Drop)]
+#[derive(Clone, Copy)]
 pub struct TextCursor<'a> {
     pub table: &'a [u8],
     pub next: usize,
@@ -16,7 +16,7 @@ pub struct TextCursor<'a> {
 }
 
 // What a draw answers: whether there was an item, its type byte, and its string as a part of the table.
-#[derive(Drop)]
+#[derive(Clone, Copy)]
 pub struct TextItem<'a> {
     pub found: bool,
     pub kind: u8,

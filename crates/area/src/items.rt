@@ -6,7 +6,7 @@ use text::string::string_bytes;
 
 // An item that was drawn, or none: its type byte, the place and length of its string, and where the next draw is from.
 #[repr(C)]
-#[derive(Drop)]
+#[derive(Clone, Copy)]
 pub struct Drawn {
     pub found: bool,
     pub kind: u8,

@@ -14,7 +14,7 @@ const LOCALES_OFFSET: u8 = 88;
 
 // A locale: its language, the two bytes of the language as stored, and the code of its character set.
 #[repr(C)]
-#[derive(Drop)]
+#[derive(Clone, Copy)]
 pub struct Locale {
     pub language: LanguageCode,
     pub language_code: [u8; 2],

@@ -24,7 +24,7 @@ pub const TABLE_WORDS: usize = MAX_HEAD_WARNINGS + MAX_TRACKS * MAX_TRACK_WARNIN
 
 // A refusal, or 0 and the area's record; the count of warnings, with refusal 6 too.
 #[repr(C)]
-#[derive(Drop)]
+#[derive(Clone, Copy)]
 pub struct TableAnswer {
     pub refusal: u8,
     pub warnings: usize,
@@ -32,7 +32,7 @@ pub struct TableAnswer {
 }
 
 // What is decided before the tracks are read.
-#[derive(Drop)]
+#[derive(Clone, Copy)]
 pub(crate) struct Plan {
     pub refusal: u8,
     pub count: usize,

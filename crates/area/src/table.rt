@@ -29,7 +29,7 @@ const DSD64: u8 = 4;
 
 // The head of a table: the code by which it is skipped, or 0 with the area's record and where its lists stand.
 #[repr(C)]
-#[derive(Drop)]
+#[derive(Clone, Copy)]
 pub struct TableHead {
     pub skip: u8,
     pub area: Area,
@@ -37,7 +37,7 @@ pub struct TableHead {
 }
 
 // A track, and the count of warning words with its own.
-#[derive(Drop)]
+#[derive(Clone, Copy)]
 pub struct NextTrack {
     pub track: Track,
     pub count: usize,

@@ -16,7 +16,7 @@ const NO_END: u8 = 0;
 
 // The place of a text's string in its table, and how the string ended; both 0 for an absent text.
 #[repr(C)]
-#[derive(Drop)]
+#[derive(Clone, Copy)]
 pub struct TextPlace {
     pub place: u32,
     pub end: u8,

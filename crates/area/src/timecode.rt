@@ -7,12 +7,12 @@ use sectors::number::byte_at;
 
 // A frame number.
 #[repr(C)]
-#[derive(Drop)]
+#[derive(Clone, Copy)]
 pub struct Frame(pub u32);
 
 // A timecode, as stored.
 #[repr(C)]
-#[derive(Drop)]
+#[derive(Clone, Copy)]
 pub struct Timecode {
     pub minutes: u8,
     pub seconds: u8,

@@ -12,14 +12,14 @@ use text::string::string_bytes;
 const SILENT: u8 = 0;
 
 // The places of a track's texts by item index, and whether a nonempty item of unknown type was met.
-#[derive(Drop)]
+#[derive(Clone, Copy)]
 pub(crate) struct ItemsKept {
     pub places: [TextPlace; TRACK_TEXTS],
     pub unknown: bool,
 }
 
 // The places of a track's texts, and the warning that they give; 0 for none.
-#[derive(Drop)]
+#[derive(Clone, Copy)]
 pub(crate) struct TrackText {
     pub places: [TextPlace; TRACK_TEXTS],
     pub warning: u8,

@@ -27,7 +27,7 @@ pub const SAMPLE_FREQUENCY_UNKNOWN: u8 = 18;
 pub const TRACK_TEXT_UNTERMINATED: u8 = 19;
 
 // A warning: its code, the slot (0 for the disc) and the track (0 for none).
-#[derive(Drop)]
+#[derive(Clone, Copy)]
 pub struct Warning {
     pub code: u8,
     pub slot: u8,

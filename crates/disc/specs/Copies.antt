@@ -2,7 +2,8 @@
 use Rattle.std.specs.Prelude.{ℕ, Bool, true, false, cond, not, ◌&&◌, List, [], ◌∷◌, ◌++◌, ltb, eqb}
 use Rattle.std.proofs.Math.Option.{Option, none, some}
 use Rattle.sectors.specs.Bytes.{same}
-use Rattle.sectors.specs.Options.{only_if, is_there}
+use Rattle.sectors.specs.Options.{only_if}
+use Rattle.sectors.specs.Sector.{readable}
 use Rattle.sectors.specs.Source.{Source, run_of}
 use Rattle.sectors.specs.declared.sector.Lsn.{Lsn}
 use Rattle.area.specs.Lent.{when_true}
@@ -40,6 +41,11 @@ first_copy source p = only_if (is_served p) (run_of source p.toc1_lsn.0 p.toc_se
 
 unfoldable pub second_copy : Source → AreaPointer → Option (List ℕ)
 second_copy source p = only_if (is_served p && has_second p) (run_of source p.toc2_lsn.0 p.toc_sectors)
+
+-- whether a copy is readable
+unfoldable pub is_there : Option (List ℕ) → Bool
+is_there none = false
+is_there (some bytes) = true
 
 -- "both readable and unequal"
 unfoldable pub unequal : Option (List ℕ) → Option (List ℕ) → Bool
@@ -119,6 +125,14 @@ slot_table source slot p = table_in slot (chosen source p)
 
 unfoldable pub slot_warnings : Source → Slot → AreaPointer → List Warning
 slot_warnings source slot p = copy_warnings (slot_number slot) (copies_of source p) ++ warnings_in (slot_table source slot p)
+
+-- ---- of an image of so many bytes
+-- which copies it has
+unfoldable pub first_readable : ℕ → ℕ → AreaPointer → Bool
+first_readable format bytes p = is_served p && readable format bytes p.toc1_lsn.0 p.toc_sectors
+
+unfoldable pub second_readable : ℕ → ℕ → AreaPointer → Bool
+second_readable format bytes p = is_served p && has_second p && readable format bytes p.toc2_lsn.0 p.toc_sectors
 
 -- the address of the copy that is read
 unfoldable pub chosen_lsn : AreaPointer → Bool → Lsn

@@ -1,12 +1,10 @@
--- Disc reading (01, "Disc" and "What the desk gets back"; 02, item 8): of any source, of one lent image, and of two rips. Assumes nothing.
+-- Disc reading (01, "Disc" and "What the desk gets back"): of any source, and of one lent image. Assumes nothing.
 use Rattle.std.specs.Prelude.{ℕ, Bool, false, cond, not, ◌&&◌, ◌||◌, List, ◌++◌, map, ltb, length}
 use Rattle.std.proofs.Math.Option.{Option, none, some}
-use Rattle.sectors.specs.Audit.{header_format}
 use Rattle.sectors.specs.Bytes.{same}
 use Rattle.sectors.specs.Fill.{fill}
 use Rattle.sectors.specs.Format.{foreign}
 use Rattle.sectors.specs.Number.{be_at}
-use Rattle.sectors.specs.Pool.{pooled_source}
 use Rattle.sectors.specs.Refusal.{foreign_format, short_buffer}
 use Rattle.sectors.specs.Source.{Source, image_source, run_of}
 use Rattle.area.specs.Area.{no_area}
@@ -168,8 +166,3 @@ unfoldable pub read_disc : ℕ → List ℕ → Memory → Outcome
 read_disc format image memory =
     outcome_of (image_source format image) format memory
     (image_master format image (length memory.work) (length memory.tracks) (length memory.words))
-
--- 02, item 8: "Reading a disc over the pair gives what reading the pooled image would, a lost sector being unreadable. A master or table copy with a lost
--- sector counts as unreadable in the sense of document 01. Existing refusals serve: 3 also for a lost sector in LSN 510 to 519."; "both as format 2"
-unfoldable pub read_rips : List ℕ → List ℕ → Memory → Outcome
-read_rips first second memory = read_source (pooled_source first second) header_format memory

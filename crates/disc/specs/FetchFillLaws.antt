@@ -17,30 +17,30 @@ use Rattle.sectors.specs.SectorLaws.{readable_true, count_known, run_length}
 use Rattle.sectors.specs.Source.{image_source}
 use Rattle.sectors.specs.SourceLaws.{image_sized}
 use Rattle.area.specs.Limits.{max_table_bytes}
-use Rattle.disc.specs.Copies.{is_served, has_second, first_copy, second_copy, unequal, chosen, bytes_of, firstReadable, secondReadable, chosen_lsn}
+use Rattle.disc.specs.Copies.{is_served, has_second, first_copy, second_copy, unequal, chosen, bytes_of, first_readable, second_readable, chosen_lsn}
 use Rattle.disc.specs.CopyLaws.{served_few, chosen_fits}
-use Rattle.disc.specs.FetchLaws.{chosen_bytes, chosen_no_bytes, copies_differ, run_differs}
+use Rattle.disc.specs.FetchLaws.{chosen_bytes, chosen_no_bytes, copies_differ, run_differs_lem}
 use Rattle.disc.specs.Master.{master_lsn, master_sectors, master_bytes}
 use Rattle.disc.specs.Slot.{master_region, work_bytes}
-use Rattle.disc.specs.Steps.{runDiffers, second_differs}
+use Rattle.disc.specs.Steps.{run_differs, second_differs}
 use Rattle.disc.specs.declared.master.AreaPointer.{AreaPointer}
 
 module _ (format : ℕ) (image : List ℕ) (p : AreaPointer) (known : foreign format ≡ false) (at : ℕ) (old : List ℕ) (room : at + max_table_bytes ≤ length old) where
   abbrev first : Bool
-  first = firstReadable format (length image) p
+  first = first_readable format (length image) p
 
   abbrev second : Bool
-  second = secondReadable format (length image) p
+  second = second_readable format (length image) p
 
   abbrev n : ℕ
   n = p.toc_sectors
 
   first_parts : first ≡ true → (is_served p ≡ true) × (readable format (length image) p.toc1_lsn.0 n ≡ true)
-  unfolding firstReadable
+  unfolding first_readable
   first_parts e = (and-eq-true_iff (is_served p) _).0 e
 
   second_parts : second ≡ true → (is_served p ≡ true) × (readable format (length image) p.toc2_lsn.0 n ≡ true)
-  unfolding secondReadable
+  unfolding second_readable
   second_parts e =
       let outer = (and-eq-true_iff (is_served p && has_second p) _).0 e in (((and-eq-true_iff (is_served p) (has_second p)).0 outer.0).0, outer.1)
 
@@ -97,13 +97,13 @@ module _ (format : ℕ) (image : List ℕ) (p : AreaPointer) (known : foreign fo
       region = part at max_table_bytes (fill at (bytes_of (chosen (image_source format image) p)) old)
 
       go : (t : Bool) → (first && second) ≡ t
-          → (t && runDiffers format image p.toc2_lsn.0 n region) ≡ (t && not (same (run_data format image p.toc2_lsn.0 n) (run_data format image p.toc1_lsn.0 n)))
+          → (t && run_differs format image p.toc2_lsn.0 n region) ≡ (t && not (same (run_data format image p.toc2_lsn.0 n) (run_data format image p.toc1_lsn.0 n)))
       go true e =
           let both = (and-eq-true_iff first second).0 e in let parts = second_parts both.1 in let few = served_few p parts.0 in
           let small = chosen_small in
           let long = length_fill at (bytes_of (chosen (image_source format image) p)) old (omega arith) in
           let size = part_length at max_table_bytes (fill at (bytes_of (chosen (image_source format image) p)) old) (omega arith) in
-          run_differs format image p.toc2_lsn.0 n region known (omega arith) parts.1
+          run_differs_lem format image p.toc2_lsn.0 n region known (omega arith) parts.1
           ∙ ap (λ (b : List ℕ). not (same (run_data format image p.toc2_lsn.0 n) b)) (region_first both.0)
       go false e = refl
 

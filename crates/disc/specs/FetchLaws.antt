@@ -23,12 +23,12 @@ use Rattle.sectors.specs.SourceLaws.{image_run, image_no_run}
 use Rattle.sectors.specs.declared.run.Comparison.{Comparison}
 use Rattle.area.specs.TestLaws.{or_left, or_right}
 use Rattle.disc.specs.CopyLaws.{chosen_without}
-use Rattle.disc.specs.Copies.{is_served, has_second, first_copy, second_copy, is_there, unequal, Copy, chosen_of, chosen, bytes_of, firstReadable, secondReadable, chosen_lsn}
+use Rattle.disc.specs.Copies.{is_served, has_second, first_copy, second_copy, is_there, unequal, Copy, chosen_of, chosen, bytes_of, first_readable, second_readable, chosen_lsn}
 use Rattle.disc.specs.Disc.{is_short, refused, reads, judged, master_in, image_master, second_master_lsn, third_master_lsn, is_unequal, master_copies_differ}
 use Rattle.disc.specs.Master.{master_lsn, master_sectors, master_bytes, master_signature, is_scarlet_book, major_version, is_newer}
 use Rattle.disc.specs.Refusal.{master_toc_truncated, not_scarlet_book, version_unsupported}
 use Rattle.disc.specs.Slot.{work_bytes, track_records, warning_words}
-use Rattle.disc.specs.Steps.{runDiffers, sector_refusal, refusal_of}
+use Rattle.disc.specs.Steps.{run_differs, sector_refusal, refusal_of}
 use Rattle.disc.specs.declared.master.AreaPointer.{AreaPointer}
 
 there_only : (t : Bool) (bytes : List ℕ) → is_there (only_if t (some bytes)) ≡ t
@@ -53,10 +53,10 @@ module _ (format : ℕ) (image : List ℕ) where
 
   module _ (p : AreaPointer) where
     abbrev first : Bool
-    first = firstReadable format (length image) p
+    first = first_readable format (length image) p
 
     abbrev second : Bool
-    second = secondReadable format (length image) p
+    second = second_readable format (length image) p
 
     abbrev first_run : List ℕ
     first_run = run_data format image p.toc1_lsn.0 p.toc_sectors
@@ -65,18 +65,18 @@ module _ (format : ℕ) (image : List ℕ) where
     second_run = run_data format image p.toc2_lsn.0 p.toc_sectors
 
     pub first_copy_lem : first_copy (image_source format image) p ≡ only_if first (some first_run)
-    unfolding first_copy firstReadable
+    unfolding first_copy first_readable
     first_copy_lem = run_if (is_served p) p.toc1_lsn.0 p.toc_sectors
 
     pub second_copy_lem : second_copy (image_source format image) p ≡ only_if second (some second_run)
-    unfolding second_copy secondReadable
+    unfolding second_copy second_readable
     second_copy_lem = run_if (is_served p && has_second p) p.toc2_lsn.0 p.toc_sectors
 
-    pub first_readable : firstReadable format (length image) p ≡ is_there (first_copy (image_source format image) p)
-    first_readable = sym (ap is_there first_copy_lem ∙ there_only first first_run)
+    pub first_readable_lem : first_readable format (length image) p ≡ is_there (first_copy (image_source format image) p)
+    first_readable_lem = sym (ap is_there first_copy_lem ∙ there_only first first_run)
 
-    pub second_readable : secondReadable format (length image) p ≡ is_there (second_copy (image_source format image) p)
-    second_readable = sym (ap is_there second_copy_lem ∙ there_only second second_run)
+    pub second_readable_lem : second_readable format (length image) p ≡ is_there (second_copy (image_source format image) p)
+    second_readable_lem = sym (ap is_there second_copy_lem ∙ there_only second second_run)
 
     -- the copy that is chosen: the first if it is readable, else the second
     abbrev chosen_copy : Copy
@@ -106,7 +106,7 @@ module _ (format : ℕ) (image : List ℕ) where
     chosen_bytes either = ap bytes_of (chosen_is either)
 
     pub chosen_no_bytes : (first || second) ≡ false → bytes_of (chosen (image_source format image) p) ≡ []
-    chosen_no_bytes neither = chosen_without (image_source format image) p ((λ i. sym first_readable i || sym second_readable i) ∙ neither)
+    chosen_no_bytes neither = chosen_without (image_source format image) p ((λ i. sym first_readable_lem i || sym second_readable_lem i) ∙ neither)
 
     -- whether the copies differ
     pub copies_differ : unequal (first_copy (image_source format image) p) (second_copy (image_source format image) p)
@@ -122,9 +122,9 @@ module _ (format : ℕ) (image : List ℕ) where
 -- ---- runs that are compared with lent bytes
 module _ (format : ℕ) (image : List ℕ) (lsn n : ℕ) (bytes : List ℕ) (known : foreign format ≡ false) (room : n * sector_size ≤ length bytes) where
   -- a readable run differs from the bytes, as many as it has
-  pub run_differs : readable format (length image) lsn n ≡ true → runDiffers format image lsn n bytes ≡ not (same (run_data format image lsn n) (take (n * sector_size) bytes))
-  unfolding runDiffers
-  run_differs there =
+  pub run_differs_lem : readable format (length image) lsn n ≡ true → run_differs format image lsn n bytes ≡ not (same (run_data format image lsn n) (take (n * sector_size) bytes))
+  unfolding run_differs
+  run_differs_lem there =
       ap (λ (c : Comparison). eqb c.refusal 0 && eqb c.equal 0) (compares format image lsn n bytes (is_not_refused format (length image) lsn n 0 (length bytes) known there (omega arith)))
       ∙ go (same (run_data format image lsn n) (take (n * sector_size) bytes))
     where
@@ -133,8 +133,8 @@ module _ (format : ℕ) (image : List ℕ) (lsn n : ℕ) (bytes : List ℕ) (kno
       go false = refl
 
   -- one that is not readable differs from nothing
-  pub run_missing : readable format (length image) lsn n ≡ false → runDiffers format image lsn n bytes ≡ false
-  unfolding runDiffers
+  pub run_missing : readable format (length image) lsn n ≡ false → run_differs format image lsn n bytes ≡ false
+  unfolding run_differs
   run_missing missing =
       ap (λ (c : Comparison). eqb c.refusal 0 && eqb c.equal 0) (compares_not format image lsn n bytes refuses)
       ∙ ap (λ (t : Bool). t && eqb 0 0) (ne_eqb (read_refusal format (length image) lsn n 0 (length bytes)) 0 refuses)
@@ -142,25 +142,25 @@ module _ (format : ℕ) (image : List ℕ) (lsn n : ℕ) (bytes : List ℕ) (kno
       refuses : read_refusal format (length image) lsn n 0 (length bytes) ≡ 0 → ⊥
       refuses e = let there = (not_refused format (length image) lsn n 0 (length bytes) e).0 in let z : ◌≡◌ {A = ℕ} 0 1 = cc in omega arith
 
-  pub run_unequal_lem : runDiffers format image lsn n bytes ≡ is_unequal (take (n * sector_size) bytes) (run_of (image_source format image) lsn n)
+  pub run_unequal : run_differs format image lsn n bytes ≡ is_unequal (take (n * sector_size) bytes) (run_of (image_source format image) lsn n)
   unfolding is_unequal
-  run_unequal_lem = go (readable format (length image) lsn n) refl
+  run_unequal = go (readable format (length image) lsn n) refl
     where
-      go : (t : Bool) → readable format (length image) lsn n ≡ t → runDiffers format image lsn n bytes ≡ is_unequal (take (n * sector_size) bytes) (run_of (image_source format image) lsn n)
-      go true e = run_differs e ∙ sym (ap (is_unequal (take (n * sector_size) bytes)) (image_run format image lsn n e))
+      go : (t : Bool) → readable format (length image) lsn n ≡ t → run_differs format image lsn n bytes ≡ is_unequal (take (n * sector_size) bytes) (run_of (image_source format image) lsn n)
+      go true e = run_differs_lem e ∙ sym (ap (is_unequal (take (n * sector_size) bytes)) (image_run format image lsn n e))
       go false e = run_missing e ∙ sym (ap (is_unequal (take (n * sector_size) bytes)) (image_no_run format image lsn n e))
 
 -- the copies of the master table
 pub master_copies_differ_lem : (format : ℕ) (image table : List ℕ) → foreign format ≡ false → length table ≡ master_bytes
     → master_copies_differ (image_source format image) table
-    ≡ (runDiffers format image second_master_lsn master_sectors table || runDiffers format image third_master_lsn master_sectors table)
+    ≡ (run_differs format image second_master_lsn master_sectors table || run_differs format image third_master_lsn master_sectors table)
 unfolding master_copies_differ
 master_copies_differ_lem format image table known size =
     sym (λ i. each second_master_lsn i || each third_master_lsn i)
   where
-    each : (lsn : ℕ) → runDiffers format image lsn master_sectors table ≡ is_unequal table (run_of (image_source format image) lsn master_sectors)
+    each : (lsn : ℕ) → run_differs format image lsn master_sectors table ≡ is_unequal table (run_of (image_source format image) lsn master_sectors)
     each lsn =
-        run_unequal_lem format image lsn master_sectors table known (omega arith)
+        run_unequal format image lsn master_sectors table known (omega arith)
         ∙ ap (λ (t : List ℕ). is_unequal t (run_of (image_source format image) lsn master_sectors)) (take_all (master_sectors * sector_size) table (omega arith))
 
 -- ---- a readable master table is judged by its first sector

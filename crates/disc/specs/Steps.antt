@@ -1,12 +1,10 @@
--- The steps in which a disc is read, for the contracts of our own functions: what is fetched from a source, and what is judged of it. What 01
+-- The steps in which a disc is read, for the contracts of our own functions: what is fetched from the image, and what is judged of it. What 01
 -- says of it stands in `Copies` and `Disc`; `StepLaws` joins the two. Assumes nothing.
 use Rattle.std.specs.Prelude.{ℕ, Bool, cond, ◌&&◌, ◌||◌, List, [], ◌++◌, map, eqb, length}
 use Rattle.sectors.specs.Fill.{fill, part}
-use Rattle.sectors.specs.Format.{foreign}
-use Rattle.sectors.specs.Options.{given}
-use Rattle.sectors.specs.Refusal.{foreign_format}
-use Rattle.sectors.specs.Run.{run_unequal}
-use Rattle.sectors.specs.Source.{Source, run_of}
+use Rattle.sectors.specs.Run.{comparison_of}
+use Rattle.sectors.specs.Sector.{sector_count}
+use Rattle.sectors.specs.Source.{Source}
 use Rattle.area.specs.Lent.{counted}
 use Rattle.area.specs.Limits.{table_bytes}
 use Rattle.area.specs.Table as Area
@@ -15,11 +13,11 @@ use Rattle.area.specs.declared.table.TableHead.{TableHead}
 use Rattle.area.specs.declared.track.Track.{Track}
 use Rattle.area.specs.declared.warning.Warning.{Warning}
 use Rattle.disc.specs.Slot.{two_channel, multichannel, master_region, region_of}
-use Rattle.disc.specs.Master.{master_lsn, master_sectors, master_bytes, is_scarlet_book, is_newer, pointer_of, master_of}
+use Rattle.disc.specs.Master.{master_bytes, is_scarlet_book, is_newer, pointer_of, master_of}
 use Rattle.disc.specs.Refusal.{not_scarlet_book, version_unsupported}
 use Rattle.disc.specs.Copies.{copies_of, copy_warnings, chosen_lsn, no_copies}
-use Rattle.disc.specs.Outcome.{Memory, Outcome, is_present}
-use Rattle.disc.specs.Disc.{Master, refused, reads, master_in, master_copies_differ, disc_warnings, work_after, outcome_of, refusal, silent}
+use Rattle.disc.specs.Outcome.{is_present}
+use Rattle.disc.specs.Disc.{Master, refused, reads, master_copies_differ, disc_warnings, work_after, refusal, silent}
 use Rattle.disc.specs.declared.master.AreaPointer.{AreaPointer}
 use Rattle.disc.specs.declared.copies.SlotCopies.{SlotCopies}
 use Rattle.disc.specs.declared.fetch.Fetched.{Fetched}
@@ -28,22 +26,15 @@ use Rattle.disc.specs.declared.disc.Opened.{Opened}
 use Rattle.disc.specs.declared.disc.SlotRead.{SlotRead}
 use Rattle.disc.specs.declared.answer.DiscAnswer.{DiscAnswer}
 
--- ---- reading from a source whose format has a number: refusal 1, and then as from any source
-unfoldable pub master_from : ℕ → Source → ℕ → ℕ → ℕ → Master
-master_from format source work records words = cond (foreign format) (refused foreign_format) (master_in source work records words)
-
-unfoldable pub read_from : ℕ → Source → Memory → Outcome
-read_from format source memory =
-    outcome_of source format memory (master_from format source (length memory.work) (length memory.tracks) (length memory.words))
-
 -- ---- fetching
--- the master table, where it is there
-abbrev pub master_table : Source → List ℕ
-master_table source = given (run_of source master_lsn master_sectors)
+-- a readable run that differs from lent bytes
+unfoldable pub run_differs : ℕ → List ℕ → ℕ → ℕ → List ℕ → Bool
+run_differs format image lsn sectors bytes =
+    eqb (comparison_of format image lsn sectors bytes).refusal 0 && eqb (comparison_of format image lsn sectors bytes).equal 0
 
 -- a second copy that differs from the first, which lent bytes begin with
-unfoldable pub second_differs : Source → Bool → AreaPointer → List ℕ → Bool
-second_differs source both p region = both && run_unequal source p.toc2_lsn.0 p.toc_sectors region
+unfoldable pub second_differs : ℕ → List ℕ → Bool → AreaPointer → List ℕ → Bool
+second_differs format image both p region = both && run_differs format image p.toc2_lsn.0 p.toc_sectors region
 
 -- the refusal of a master table by its first sector
 unfoldable pub sector_refusal : List ℕ → ℕ
@@ -108,7 +99,7 @@ unfoldable pub slot_read_of : SlotPlan → ℕ → SlotRead
 slot_read_of plan count = record { count = count; area = plan.head.area }
 
 -- ---- answering
--- the answer of an accepted disc by what was read
+-- the answer by what was opened and read
 unfoldable pub read_answer : ℕ → ℕ → List ℕ → SlotRead → SlotRead → DiscAnswer
 read_answer format sectors table first second = record {
   refusal = 0;
@@ -120,11 +111,10 @@ read_answer format sectors table first second = record {
   multichannel = second.area;
 }
 
--- the answer by what was opened and read, of so many sectors
 unfoldable pub answer_by : ℕ → ℕ → List ℕ → Opened → SlotRead → SlotRead → DiscAnswer
-answer_by format sectors work opened first second =
+answer_by format bytes work opened first second =
     cond (eqb opened.refusal 0)
     (cond (is_present first.area || is_present second.area)
-    (read_answer format sectors (part master_region master_bytes work) first second)
+    (read_answer format (sector_count format bytes) (part master_region master_bytes work) first second)
     (silent (part master_region master_bytes work) second.count))
     (refusal opened.refusal)

@@ -9,10 +9,11 @@ use crate::master::{MasterToc, master_of, no_master};
 use crate::regions::master_region;
 use area::area::{Area, no_area};
 use area::refusal::NO_AUDIO_AREAS;
+use sectors::sector::sector_count;
 
 // A refusal, or 0 and the records; the count of warnings and the master record with refusal 6 too.
 #[repr(C)]
-#[derive(Drop)]
+#[derive(Clone, Copy)]
 pub struct DiscAnswer {
     pub refusal: u8,
     pub warnings: usize,
@@ -84,23 +85,23 @@ fn has_area(read: SlotRead) -> bool
     area.present == 1
 }
 
-// The answer by what was opened and read, of so many sectors.
+// The answer by what was opened and read.
 pub(crate) fn disc_answer(
     format: u32,
-    sectors: usize,
+    bytes: usize,
     work: &[u8],
     opened: Opened,
     first: SlotRead,
     second: SlotRead,
 ) -> DiscAnswer
-    ensures { result ≡ answer_by format sectors work.now opened first second }
+    ensures { result ≡ answer_by format bytes work.now opened first second }
 {
     if opened.refusal != 0 {
         return refused(opened.refusal);
     }
     let table = master_region(work);
     if has_area(first) | has_area(second) {
-        return accepted(format, sectors, table, first, second);
+        return accepted(format, sector_count(format, bytes), table, first, second);
     }
     silent(table, second.count)
 }

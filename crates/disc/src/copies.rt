@@ -1,16 +1,13 @@
 // The copies of a slot's table: which are named, which are readable, and whether they differ.
-ghost use Rattle.std.specs.Prelude.{◌≡◌};
-ghost use Rattle.sectors.specs.Options.{is_there};
-ghost use Rattle.sectors.specs.Pool.{source_of};
-ghost use Rattle.disc.specs.Copies.{is_used, is_too_large, is_served, has_second, first_copy, second_copy, no_copies, chosen_lsn};
+ghost use Rattle.std.specs.Prelude.{◌≡◌, cond};
+ghost use Rattle.disc.specs.Copies.{is_used, is_too_large, is_served, has_second, no_copies, first_readable, second_readable, chosen_lsn};
 
 use crate::master::{AreaPointer, no_pointer};
 use area::table::MAX_AREA_TOC_SECTORS;
-use sectors::sector::Lsn;
-use sectors::source::has_run;
+use sectors::sector::{Lsn, contains};
 
 // What is known of a slot's copies.
-#[derive(Drop)]
+#[derive(Clone, Copy)]
 pub(crate) struct SlotCopies {
     pub pointer: AreaPointer,
     pub toc1: bool,
@@ -48,50 +45,31 @@ pub(crate) fn has_second(pointer: AreaPointer) -> bool
     toc2.0 != 0
 }
 
-// Whether the first copy is to be read, and is there.
-pub(crate) fn first_readable(
-    pooled: bool,
-    format: u32,
-    first: &[u8],
-    second: &[u8],
-    pointer: AreaPointer,
-) -> bool
-    ensures { result ≡ is_there (first_copy (source_of pooled format first.now second.now) pointer) }
+// Whether the first copy is to be read, and is in an image of so many bytes.
+pub(crate) fn first_readable(format: u32, bytes: usize, pointer: AreaPointer) -> bool
+    ensures { result ≡ first_readable format bytes pointer }
 {
-    if !is_served(pointer) {
-        return false;
-    }
-    has_run(
-        pooled,
-        format,
-        first,
-        second,
-        pointer.toc1_lsn,
-        pointer.toc_sectors as usize,
-    )
+    is_served(pointer)
+        & contains(
+            format,
+            bytes,
+            pointer.toc1_lsn,
+            pointer.toc_sectors as usize,
+        )
 }
 
 // The same of the second copy.
-pub(crate) fn second_readable(
-    pooled: bool,
-    format: u32,
-    first: &[u8],
-    second: &[u8],
-    pointer: AreaPointer,
-) -> bool
-    ensures { result ≡ is_there (second_copy (source_of pooled format first.now second.now) pointer) }
+pub(crate) fn second_readable(format: u32, bytes: usize, pointer: AreaPointer) -> bool
+    ensures { result ≡ second_readable format bytes pointer }
 {
-    if !(is_served(pointer) & has_second(pointer)) {
-        return false;
-    }
-    has_run(
-        pooled,
-        format,
-        first,
-        second,
-        pointer.toc2_lsn,
-        pointer.toc_sectors as usize,
-    )
+    is_served(pointer)
+        & has_second(pointer)
+        & contains(
+            format,
+            bytes,
+            pointer.toc2_lsn,
+            pointer.toc_sectors as usize,
+        )
 }
 
 // The address of the copy that is read: the first if it is readable.

@@ -17,7 +17,7 @@ const RAW2054: u32 = 1;
 
 // A refusal, or 0 and the format.
 #[repr(C)]
-#[derive(Drop)]
+#[derive(Clone, Copy)]
 pub struct DetectAnswer {
     pub refusal: u8,
     pub sector_format: u32,

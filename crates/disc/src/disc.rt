@@ -1,10 +1,10 @@
-// Disc reading: from one lent image, and from two rips.
+// Disc reading from one lent image.
 ghost use Rattle.std.specs.Prelude.{◌≡◌, map, length};
 ghost use Rattle.std.proofs.lemmas.List.Edits.{sets};
 ghost use Rattle.area.specs.Warning.{word_of};
-ghost use Rattle.sectors.specs.Pool.{source_of};
-ghost use Rattle.disc.specs.Disc.{read_disc, read_rips};
-ghost use Rattle.disc.specs.Steps.{master_from, read_from, opened_of, opened_work, opened_words, slot_read_of, slot_read_by, slot_tracks, slot_notes};
+ghost use Rattle.sectors.specs.Source.{image_source};
+ghost use Rattle.disc.specs.Disc.{image_master, read_disc};
+ghost use Rattle.disc.specs.Steps.{opened_of, opened_work, opened_words, slot_read_of, slot_read_by, slot_tracks, slot_notes};
 ghost use Rattle.disc.specs.Slot.{tracks_from};
 
 use crate::answer::{DiscAnswer, disc_answer};
@@ -15,11 +15,9 @@ use crate::regions::{MULTICHANNEL_SLOT, TWO_CHANNEL_SLOT, master_region, region_
 use area::area::Area;
 use area::track::Track;
 use area::tracks::fill_tracks;
-use sectors::header::HEADER_FORMAT;
-use sectors::source::source_count;
 
 // What is known once the master table is read: a refusal, or the count of the disc's warnings and what is known of each slot's copies.
-#[derive(Drop)]
+#[derive(Clone, Copy)]
 pub(crate) struct Opened {
     pub refusal: u8,
     pub count: usize,
@@ -28,38 +26,25 @@ pub(crate) struct Opened {
 }
 
 // What a slot gives: the count of warnings then, and the area's record.
-#[derive(Drop)]
+#[derive(Clone, Copy)]
 pub(crate) struct SlotRead {
     pub count: usize,
     pub area: Area,
 }
 
 // Refuses a disc, or fetches its tables into their regions and writes the disc's warnings.
-pub(crate) fn open<'a>(
-    pooled: bool,
+pub(crate) fn open(
     format: u32,
-    first: &'a [u8],
-    second: &'a [u8],
+    image: &[u8],
     work: &mut [u8],
     records: usize,
     words: &mut [u32],
 ) -> Opened
-    ensures { (result ≡ opened_of (source_of pooled format first.now second.now)
-        (master_from format (source_of pooled format first.now second.now) (length work.old) records (length words.old)))
-        × ((work.new ≡ opened_work (source_of pooled format first.now second.now)
-        (master_from format (source_of pooled format first.now second.now) (length work.old) records (length words.old)) work.old)
-        × (words.new ≡ opened_words (source_of pooled format first.now second.now)
-        (master_from format (source_of pooled format first.now second.now) (length work.old) records (length words.old)) words.old)) }
+    ensures { (result ≡ opened_of (image_source format image.now) (image_master format image.now (length work.old) records (length words.old)))
+        × ((work.new ≡ opened_work (image_source format image.now) (image_master format image.now (length work.old) records (length words.old)) work.old)
+        × (words.new ≡ opened_words (image_source format image.now) (image_master format image.now (length work.old) records (length words.old)) words.old)) }
 {
-    let refusal = open_refusal(
-        pooled,
-        format,
-        first,
-        second,
-        work.len(),
-        records,
-        words.len(),
-    );
+    let refusal = open_refusal(format, image, work.len(), records, words.len());
     if refusal != 0 {
         return Opened {
             refusal,
@@ -68,15 +53,15 @@ pub(crate) fn open<'a>(
             second: no_copies(),
         };
     }
-    let fetched = fetch(pooled, format, first, second, work);
-    let first_copies = fetched.first;
-    let second_copies = fetched.second;
+    let fetched = fetch(format, image, work);
+    let first = fetched.first;
+    let second = fetched.second;
     let count = push_disc(words, fetched.differ, master_region(work));
     Opened {
         refusal: 0,
         count,
-        first: first_copies,
-        second: second_copies,
+        first,
+        second,
     }
 }
 
@@ -115,47 +100,6 @@ fn read_slot(
     slot_read(plan, n)
 }
 
-// Reads a disc from an image or from two rips.
-fn read_source<'a>(
-    pooled: bool,
-    format: u32,
-    first: &'a [u8],
-    second: &'a [u8],
-    work: &mut [u8],
-    tracks: &mut [Track],
-    words: &mut [u32],
-) -> DiscAnswer
-    ensures { (result ≡ (read_from format (source_of pooled format first.now second.now)
-        (record { work = work.entry.now; tracks = tracks.old; words = words.old })).answer)
-        × ((work.exit.now ≡ (read_from format (source_of pooled format first.now second.now)
-        (record { work = work.entry.now; tracks = tracks.old; words = words.old })).memory.work)
-        × ((tracks.new ≡ (read_from format (source_of pooled format first.now second.now)
-        (record { work = work.entry.now; tracks = tracks.old; words = words.old })).memory.tracks)
-        × (words.new ≡ (read_from format (source_of pooled format first.now second.now)
-        (record { work = work.entry.now; tracks = tracks.old; words = words.old })).memory.words))) }
-{
-    let opened = open(pooled, format, first, second, work, tracks.len(), words);
-    let tables: &[u8] = work;
-    let two_channel = read_slot(
-        tables,
-        TWO_CHANNEL_SLOT,
-        opened.first,
-        tracks,
-        words,
-        opened.count,
-    );
-    let multichannel = read_slot(
-        tables,
-        MULTICHANNEL_SLOT,
-        opened.second,
-        tracks,
-        words,
-        two_channel.count,
-    );
-    let sectors = source_count(pooled, format, first, second);
-    disc_answer(format, sectors, tables, opened, two_channel, multichannel)
-}
-
 // Reads a disc: its master record and the records of its areas, its tables into the work bytes, its tracks into a list, its warnings into
 // words. Refusals 1 to 5 change nothing; 6 gives the warning count and the master record.
 pub fn read_disc(
@@ -170,25 +114,23 @@ pub fn read_disc(
         × ((tracks.new ≡ (read_disc format image.now (record { work = work.entry.now; tracks = tracks.old; words = words.old })).memory.tracks)
         × (words.new ≡ (read_disc format image.now (record { work = work.entry.now; tracks = tracks.old; words = words.old })).memory.words))) }
 {
-    read_source(false, format, image, image, work, tracks, words)
-}
-
-// Reads a disc from two rips of it, as `read_disc` reads one from their pooled image. 1 is not among the refusals; 3 comes for a lost sector in LSN 510 to 519 too.
-pub fn read_rips(
-    first: &[u8],
-    second: &[u8],
-    work: &mut [u8],
-    tracks: &mut [Track],
-    words: &mut [u32],
-) -> DiscAnswer
-    ensures { (result ≡ (read_rips first.now second.now
-        (record { work = work.entry.now; tracks = tracks.old; words = words.old })).answer)
-        × ((work.exit.now ≡ (read_rips first.now second.now
-        (record { work = work.entry.now; tracks = tracks.old; words = words.old })).memory.work)
-        × ((tracks.new ≡ (read_rips first.now second.now
-        (record { work = work.entry.now; tracks = tracks.old; words = words.old })).memory.tracks)
-        × (words.new ≡ (read_rips first.now second.now
-        (record { work = work.entry.now; tracks = tracks.old; words = words.old })).memory.words))) }
-{
-    read_source(true, HEADER_FORMAT, first, second, work, tracks, words)
+    let opened = open(format, image, work, tracks.len(), words);
+    let tables: &[u8] = work;
+    let first = read_slot(
+        tables,
+        TWO_CHANNEL_SLOT,
+        opened.first,
+        tracks,
+        words,
+        opened.count,
+    );
+    let second = read_slot(
+        tables,
+        MULTICHANNEL_SLOT,
+        opened.second,
+        tracks,
+        words,
+        first.count,
+    );
+    disc_answer(format, image.len(), tables, opened, first, second)
 }

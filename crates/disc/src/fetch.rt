@@ -1,16 +1,16 @@
-// What is fetched from an image or from two rips: the master table and each slot's chosen copy into their regions, and what is known of the copies.
-ghost use Rattle.std.specs.Prelude.{◌≡◌, true, cond, ◌+◌, ◌≤◌, length};
+// What is fetched from an image: the master table and each slot's chosen copy into their regions, and what is known of the copies.
+ghost use Rattle.std.specs.Prelude.{◌≡◌, true, false, cond, ◌+◌, ◌≤◌, length};
 ghost use Rattle.sectors.specs.Fill.{fill};
-ghost use Rattle.sectors.specs.Options.{is_there};
-ghost use Rattle.sectors.specs.Pool.{source_of};
-ghost use Rattle.sectors.specs.Run.{run_into};
-ghost use Rattle.sectors.specs.Source.{run_of};
+ghost use Rattle.sectors.specs.Format.{foreign};
+ghost use Rattle.sectors.specs.Run.{read_into};
+ghost use Rattle.sectors.specs.Sector.{readable, run_data};
+ghost use Rattle.sectors.specs.Source.{image_source};
 ghost use Rattle.area.specs.Limits.{max_table_bytes};
 ghost use Rattle.disc.specs.Copies.{copies_of, chosen, bytes_of};
-ghost use Rattle.disc.specs.Disc.{master_copies_differ, work_after};
+ghost use Rattle.disc.specs.Disc.{image_master, master_copies_differ, work_after};
 ghost use Rattle.disc.specs.Master.{master_lsn, master_sectors, master_bytes};
 ghost use Rattle.disc.specs.Slot.{work_bytes};
-ghost use Rattle.disc.specs.Steps.{master_from, master_table, sector_refusal, refusal_of, second_differs, fetched_of};
+ghost use Rattle.disc.specs.Steps.{sector_refusal, refusal_of, run_differs, second_differs, fetched_of};
 
 use crate::copies::{SlotCopies, chosen_lsn, first_readable, second_readable};
 use crate::master::{
@@ -24,9 +24,9 @@ use crate::regions::{
 };
 use sectors::number::byte_at;
 use sectors::refusal::{FOREIGN_FORMAT, SHORT_BUFFER};
-use sectors::sector::{Lsn, is_foreign};
+use sectors::run::{compare_sectors, read_sectors};
+use sectors::sector::{Lsn, contains, is_foreign, sector_data};
 use sectors::signature::has_signature;
-use sectors::source::{has_run, read_run, run_differs, source_sector};
 
 // The addresses of the master table's copies.
 const SECOND_MASTER_LSN: u32 = 520;
@@ -39,7 +39,7 @@ const MAX_MAJOR_VERSION: u8 = 1;
 const MAJOR_VERSION_OFFSET: usize = 8;
 
 // What a fetch finds: whether a copy of the master table differs from it, and what is known of each slot's copies.
-#[derive(Drop)]
+#[derive(Clone, Copy)]
 pub(crate) struct Fetched {
     pub differ: bool,
     pub first: SlotCopies,
@@ -60,16 +60,14 @@ fn master_refusal(sector: &[u8]) -> u8
 }
 
 // The first of refusals 1 to 5 that applies; 0 if none does.
-pub(crate) fn open_refusal<'a>(
-    pooled: bool,
+pub(crate) fn open_refusal(
     format: u32,
-    first: &'a [u8],
-    second: &'a [u8],
+    image: &[u8],
     work: usize,
     records: usize,
     words: usize,
 ) -> u8
-    ensures { result ≡ refusal_of (master_from format (source_of pooled format first.now second.now) work records words) }
+    ensures { result ≡ refusal_of (image_master format image.now work records words) }
 {
     if is_foreign(format) {
         return FOREIGN_FORMAT;
@@ -77,43 +75,34 @@ pub(crate) fn open_refusal<'a>(
     if (work < WORK_BYTES) | (records < TRACK_RECORDS) | (words < WARNING_WORDS) {
         return SHORT_BUFFER;
     }
-    if !has_run(
-        pooled,
-        format,
-        first,
-        second,
-        Lsn(MASTER_TOC_LSN),
-        MASTER_TOC_SECTORS,
-    ) {
+    if !contains(format, image.len(), Lsn(MASTER_TOC_LSN), MASTER_TOC_SECTORS) {
         return MASTER_TOC_TRUNCATED;
     }
-    master_refusal(source_sector(pooled, format, first, second, Lsn(MASTER_TOC_LSN)))
+    master_refusal(sector_data(format, image, Lsn(MASTER_TOC_LSN)))
+}
+
+// Whether a readable run of sectors differs from as many lent bytes.
+fn run_differs(format: u32, image: &[u8], lsn: Lsn, sectors: usize, bytes: &[u8]) -> bool
+    ensures { result ≡ run_differs format image.now lsn.0 sectors bytes.now }
+{
+    let compared = compare_sectors(format, image, lsn, sectors, bytes);
+    (compared.refusal == 0) & (compared.equal == 0)
 }
 
 // Whether a readable copy of the master table differs from it.
-fn master_copies_differ<'a>(
-    pooled: bool,
-    format: u32,
-    first: &'a [u8],
-    second: &'a [u8],
-    table: &[u8],
-) -> bool
-    requires { length table.now ≡ master_bytes }
-    ensures { result ≡ master_copies_differ (source_of pooled format first.now second.now) table.now }
+fn master_copies_differ(format: u32, image: &[u8], table: &[u8]) -> bool
+    requires { (foreign format ≡ false) × (length table.now ≡ master_bytes) }
+    ensures { result ≡ master_copies_differ (image_source format image.now) table.now }
 {
     run_differs(
-        pooled,
         format,
-        first,
-        second,
+        image,
         Lsn(SECOND_MASTER_LSN),
         MASTER_TOC_SECTORS,
         table,
     ) | run_differs(
-        pooled,
         format,
-        first,
-        second,
+        image,
         Lsn(THIRD_MASTER_LSN),
         MASTER_TOC_SECTORS,
         table,
@@ -121,25 +110,21 @@ fn master_copies_differ<'a>(
 }
 
 // Whether a slot's second copy differs from lent bytes, if both copies are there.
-fn second_differs<'a>(
-    pooled: bool,
+fn second_differs(
     format: u32,
-    first: &'a [u8],
-    second: &'a [u8],
+    image: &[u8],
     both: bool,
     pointer: AreaPointer,
     region: &[u8],
 ) -> bool
-    ensures { result ≡ second_differs (source_of pooled format first.now second.now) both pointer region.now }
+    ensures { result ≡ second_differs format image.now both pointer region.now }
 {
     if !both {
         return false;
     }
     run_differs(
-        pooled,
         format,
-        first,
-        second,
+        image,
         pointer.toc2_lsn,
         pointer.toc_sectors as usize,
         region,
@@ -147,57 +132,40 @@ fn second_differs<'a>(
 }
 
 // Copies a run of sectors into the work bytes from a place on, if it is there.
-fn fetch_copy<'a>(
-    pooled: bool,
+fn fetch_copy(
     format: u32,
-    first: &'a [u8],
-    second: &'a [u8],
+    image: &[u8],
     there: bool,
     lsn: Lsn,
     sectors: u16,
     work: &mut [u8],
     at: usize,
 )
-    ensures { work.new ≡ cond there
-        (run_into (source_of pooled format first.now second.now) lsn.0 sectors at work.old)
-        work.old }
+    ensures { work.new ≡ cond there (read_into format image.now lsn.0 sectors at work.old) work.old }
 {
     if there {
-        read_run(
-            pooled,
-            format,
-            first,
-            second,
-            lsn,
-            sectors as usize,
-            work,
-            at,
-        );
+        read_sectors(format, image, lsn, sectors as usize, work, at);
     }
 }
 
 // Fetches the chosen copy of a slot into its region, from a place on: what is known of both copies.
-fn fetch_slot<'a>(
-    pooled: bool,
+fn fetch_slot(
     format: u32,
-    first: &'a [u8],
-    second: &'a [u8],
+    image: &[u8],
     pointer: AreaPointer,
     work: &mut [u8],
     at: usize,
 ) -> SlotCopies
-    requires { at + max_table_bytes ≤ length work.old }
-    ensures known { result ≡ copies_of (source_of pooled format first.now second.now) pointer }
-    ensures filled { work.new ≡ fill at (bytes_of (chosen (source_of pooled format first.now second.now) pointer)) work.old }
+    requires { (foreign format ≡ false) × (at + max_table_bytes ≤ length work.old) }
+    ensures known { result ≡ copies_of (image_source format image.now) pointer }
+    ensures filled { work.new ≡ fill at (bytes_of (chosen (image_source format image.now) pointer)) work.old }
 {
-    let toc1 = first_readable(pooled, format, first, second, pointer);
-    let toc2 = second_readable(pooled, format, first, second, pointer);
+    let toc1 = first_readable(format, image.len(), pointer);
+    let toc2 = second_readable(format, image.len(), pointer);
     let lsn = chosen_lsn(pointer, toc1);
     fetch_copy(
-        pooled,
         format,
-        first,
-        second,
+        image,
         toc1 | toc2,
         lsn,
         pointer.toc_sectors,
@@ -205,10 +173,8 @@ fn fetch_slot<'a>(
         at,
     );
     let differ = second_differs(
-        pooled,
         format,
-        first,
-        second,
+        image,
         toc1 & toc2,
         pointer,
         &work[at..at + REGION_BYTES],
@@ -222,55 +188,28 @@ fn fetch_slot<'a>(
 }
 
 // Fetches the master table and the chosen copies into their regions.
-pub(crate) fn fetch<'a>(
-    pooled: bool,
-    format: u32,
-    first: &'a [u8],
-    second: &'a [u8],
-    work: &mut [u8],
-) -> Fetched
-    requires { (is_there (run_of (source_of pooled format first.now second.now) master_lsn master_sectors) ≡ true)
-        × (work_bytes ≤ length work.old) }
-    ensures known { result ≡ fetched_of (source_of pooled format first.now second.now)
-        (master_table (source_of pooled format first.now second.now)) }
-    ensures filled { work.new ≡ work_after (source_of pooled format first.now second.now)
-        (master_table (source_of pooled format first.now second.now)) work.old }
+pub(crate) fn fetch(format: u32, image: &[u8], work: &mut [u8]) -> Fetched
+    requires { (readable format (length image.now) master_lsn master_sectors ≡ true) × (work_bytes ≤ length work.old) }
+    ensures known { result ≡ fetched_of (image_source format image.now) (run_data format image.now master_lsn master_sectors) }
+    ensures filled { work.new ≡ work_after (image_source format image.now) (run_data format image.now master_lsn master_sectors) work.old }
 {
-    read_run(
-        pooled,
+    read_sectors(
         format,
-        first,
-        second,
+        image,
         Lsn(MASTER_TOC_LSN),
         MASTER_TOC_SECTORS,
         work,
         MASTER_REGION,
     );
     let table = master_region(work);
-    let differ = master_copies_differ(pooled, format, first, second, table);
+    let differ = master_copies_differ(format, image, table);
     let two_channel = two_channel_pointer(table);
     let multichannel = multichannel_pointer(table);
-    let first_copies = fetch_slot(
-        pooled,
-        format,
-        first,
-        second,
-        two_channel,
-        work,
-        TWO_CHANNEL_REGION,
-    );
-    let second_copies = fetch_slot(
-        pooled,
-        format,
-        first,
-        second,
-        multichannel,
-        work,
-        MULTICHANNEL_REGION,
-    );
+    let first = fetch_slot(format, image, two_channel, work, TWO_CHANNEL_REGION);
+    let second = fetch_slot(format, image, multichannel, work, MULTICHANNEL_REGION);
     Fetched {
         differ,
-        first: first_copies,
-        second: second_copies,
+        first,
+        second,
     }
 }

@@ -20,7 +20,7 @@ use area::warning::{Warning, push};
 use sectors::number::byte_at;
 
 // What is decided of a slot before its tracks are read: the count of warnings, and the head of its table.
-#[derive(Drop)]
+#[derive(Clone, Copy)]
 pub(crate) struct SlotPlan {
     pub count: usize,
     pub head: TableHead,

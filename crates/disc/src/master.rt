@@ -44,7 +44,7 @@ const MANUFACTURER_OFFSET: usize = 9 * SECTOR_SIZE;
 
 // What the master table says of a slot: the addresses of its table's two copies, and their sectors.
 #[repr(C)]
-#[derive(Drop)]
+#[derive(Clone, Copy)]
 pub struct AreaPointer {
     pub toc1_lsn: Lsn,
     pub toc2_lsn: Lsn,
@@ -53,7 +53,7 @@ pub struct AreaPointer {
 
 // A date as stored.
 #[repr(C)]
-#[derive(Drop)]
+#[derive(Clone, Copy)]
 pub struct Date {
     pub year: u16,
     pub month: u8,
@@ -62,7 +62,7 @@ pub struct Date {
 
 // The master record. `manufacturer` is a flag: the bytes stand in the master table.
 #[repr(C)]
-#[derive(Drop)]
+#[derive(Clone, Copy)]
 pub struct MasterToc {
     pub version: Version,
     pub album_set_size: u16,

@@ -15,7 +15,7 @@ use disc::regions::TRACK_RECORDS;
 use text::decode::DecodeAnswer;
 
 // What a reading gives: the answer, and the list of tracks.
-#[derive(Drop)]
+#[derive(Clone, Copy)]
 pub struct Reading {
     pub answer: DiscAnswer,
     pub tracks: [Track; TRACK_RECORDS],

@@ -14,7 +14,7 @@ use area::table::{TableHead, next_track, track_count};
 use area::track::Track;
 
 // The place behind what was written, and the count of warning words.
-#[derive(Drop)]
+#[derive(Clone, Copy)]
 pub(crate) struct Written {
     pub at: usize,
     pub count: usize,

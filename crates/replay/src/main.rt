@@ -10,7 +10,7 @@ use sectors::number::be32_at;
 const MAX_TABLES: u64 = 1000000;
 
 // What a record was: a run of the table, its end, or neither.
-#[derive(Drop)]
+#[derive(Clone, Copy)]
 enum Record {
     Run,
     End(usize),

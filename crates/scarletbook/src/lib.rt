@@ -248,7 +248,7 @@ pub extern "C" fn scarletbook_language(first: u8, second: u8) -> LanguageCode
 
 // What is kept of a track's times, and whether they went past the play time (0 or 1).
 #[repr(C)]
-#[derive(Drop)]
+#[derive(Clone, Copy)]
 pub struct CapAnswer {
     pub start_frame: Frame,
     pub duration_frames: Frame,
@@ -257,7 +257,7 @@ pub struct CapAnswer {
 
 // An item that was drawn, or none (found is 0): its type byte, the place and length of its string, and where the next draw is from.
 #[repr(C)]
-#[derive(Drop)]
+#[derive(Clone, Copy)]
 pub struct DrawAnswer {
     pub found: u8,
     pub kind: u8,

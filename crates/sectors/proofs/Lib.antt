@@ -5,5 +5,4 @@ pub mod Halves
 pub mod HeaderCases
 pub mod Mending
 pub mod Places
-pub mod PoolCases
 pub mod Turns

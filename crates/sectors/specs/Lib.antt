@@ -16,6 +16,8 @@ pub mod Sector
 pub mod SectorLaws
 pub mod Source
 pub mod SourceLaws
+pub mod Run
+pub mod RunLaws
 pub mod Field
 pub mod XorLaws
 pub mod TableLaws
@@ -24,10 +26,6 @@ pub mod Header
 pub mod HeaderLaws
 pub mod Audit
 pub mod AuditLaws
-pub mod Pool
-pub mod PoolLaws
-pub mod Run
-pub mod RunLaws
 pub mod Log
 pub mod LogLaws
 pub mod Mend

@@ -12,7 +12,7 @@ pub const PRIME: u64 = 0x0000_0100_0000_01b3;
 
 // The digest of a sector's data bytes, or a refusal and 0.
 #[repr(C)]
-#[derive(Drop)]
+#[derive(Clone, Copy)]
 pub struct FingerprintAnswer {
     pub refusal: u8,
     pub digest: u64,

@@ -1,6 +1,6 @@
 // The header of a sector of a format 2 image: six bytes, blank when they are zeros, sound when they are another multiple of (x + 1)(x + α).
 ghost use Rattle.std.specs.Prelude.{◌≡◌, ◌↔◌, length};
-ghost use Rattle.sectors.specs.Header.{Sound, Blank, Unsound, at_one, at_alpha, is_multiple, is_blank, is_sound};
+ghost use Rattle.sectors.specs.Header.{Sound, Blank, Unsound, at_one, at_alpha, is_multiple, is_blank};
 ghost use Rattle.sectors.specs.Audit.{HeaderIn, answer_of, audit_of};
 
 use crate::bytes::same_bytes;
@@ -15,7 +15,7 @@ pub const HEADER_SIZE: usize = 6;
 pub const HEADER_FORMAT: u32 = 2;
 
 // What the audit of a header answers.
-#[derive(Drop)]
+#[derive(Clone, Copy)]
 pub enum AuditResult {
     Sound,
     Blank,
@@ -34,7 +34,7 @@ pub const UNSOUND: u8 = 3;
 
 // The same as numbers: 0 and the verdict, or a refusal and 0.
 #[repr(C)]
-#[derive(Drop)]
+#[derive(Clone, Copy)]
 pub struct AuditAnswer {
     pub refusal: u8,
     pub verdict: u8,
@@ -80,14 +80,6 @@ fn is_blank(h: &[u8]) -> bool
 {
     let zeros = [0u8; HEADER_SIZE];
     same_bytes(h, &zeros)
-}
-
-// Whether six bytes are a sound header: a multiple that is not blank.
-pub(crate) fn is_sound(h: &[u8]) -> bool
-    requires { length h.now ≡ 6 }
-    ensures { result ≡ is_sound h.now }
-{
-    is_multiple(h) & !is_blank(h)
 }
 
 // Audits the header of a sector.

@@ -15,7 +15,7 @@ const LAST_PLACE: usize = HEADER_SIZE - 1;
 
 // The header that a sector's mends to, or a refusal and zeros.
 #[repr(C)]
-#[derive(Drop)]
+#[derive(Clone, Copy)]
 pub struct Mended {
     pub refusal: u8,
     pub header: [u8; HEADER_SIZE],

@@ -11,11 +11,11 @@ pub const SECTOR_SIZE: usize = 2048;
 
 // A sector address.
 #[repr(C)]
-#[derive(Drop)]
+#[derive(Clone, Copy)]
 pub struct Lsn(pub u32);
 
 // How a sector is stored: in so many bytes, with its data from an offset on.
-#[derive(Drop)]
+#[derive(Clone, Copy)]
 pub(crate) struct Layout {
     pub stored: usize,
     pub offset: usize,
@@ -29,7 +29,7 @@ pub fn is_foreign(format: u32) -> bool
 }
 
 // How sectors are stored in a format; zeros for a foreign one.
-pub(crate) fn layout_of(format: u32) -> Layout
+fn layout_of(format: u32) -> Layout
     ensures { result ≡ layout_of format }
 {
     match format {

@@ -19,7 +19,7 @@ pub(crate) fn zeros() -> [u8; IMAGE_BYTES]
 }
 
 // What the master table says of a slot.
-#[derive(Drop)]
+#[derive(Clone, Copy)]
 pub(crate) struct Pointer {
     pub toc1: u16,
     pub toc2: u16,

@@ -37,7 +37,7 @@ const IMAGE_BYTES: usize = 1500000;
 const UNREAD: u8 = 90;
 
 // What a record was: a run of the image, its end, or neither.
-#[derive(Drop)]
+#[derive(Clone, Copy)]
 enum Record {
     Run,
     End(usize),

@@ -12,7 +12,7 @@ use crate::utf8::{blank_low, put_character};
 
 // A refusal, or 0 and how many bytes the text has.
 #[repr(C)]
-#[derive(Drop)]
+#[derive(Clone, Copy)]
 pub struct DecodeAnswer {
     pub refusal: u8,
     pub len: usize,

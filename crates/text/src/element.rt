@@ -7,7 +7,7 @@ ghost use Rattle.text.specs.Mapping.{Rising};
 use crate::lookup::lookup;
 
 // A value, and how many bytes it takes.
-#[derive(Drop)]
+#[derive(Clone, Copy)]
 pub(crate) struct Element {
     pub value: u32,
     pub size: usize,

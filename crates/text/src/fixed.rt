@@ -12,7 +12,7 @@ pub const FIELD_SIZE: usize = 16;
 
 // The bytes of a field's text, one a character, and how many they are; zero past them.
 #[repr(C)]
-#[derive(Drop)]
+#[derive(Clone, Copy)]
 pub struct FixedText {
     pub bytes: [u8; FIELD_SIZE],
     pub len: u8,

@@ -10,7 +10,7 @@ const BLANK: u8 = 0x20;
 
 // The characters of a language code, one byte each, and how many they are; zero past them.
 #[repr(C)]
-#[derive(Drop)]
+#[derive(Clone, Copy)]
 pub struct LanguageCode {
     pub bytes: [u8; LANGUAGE_SIZE],
     pub len: u8,

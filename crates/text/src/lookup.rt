@@ -3,7 +3,7 @@ ghost use Rattle.std.specs.Prelude.{◌≡◌};
 ghost use Rattle.text.specs.Mapping.{Rising, lookup_in};
 
 // Whether a key has a value, and which; 0 if it has none.
-#[derive(Drop)]
+#[derive(Clone, Copy)]
 pub(crate) struct Found {
     pub there: bool,
     pub value: u32,

@@ -4,7 +4,7 @@ ghost use Rattle.text.specs.Parts.{parts_of, WholeAt};
 ghost use Rattle.text.specs.Mapping.{is_point, is_value, entries_sound, all_points, behind, entries_at, singles_of, pairs_of, doubles_of, is_mapping};
 
 // Whether words have the parts of a mapping and nothing else; then the places of the counts of pairs and of doubles, and the latter.
-#[derive(Drop)]
+#[derive(Clone, Copy)]
 pub(crate) struct Parts {
     pub whole: bool,
     pub pairs_at: usize,

@@ -3,7 +3,7 @@ use mathlib.Core.Bool.{◌&&◌}
 use borrow.Author.Rules.{rules}
 use Rattle.disc.proofs.copies.first_readable.Statement.{statement}
 use Rattle.disc.proofs.copies.first_readable.Tie as tie
-use Rattle.disc.specs.Copies.{firstReadable}
+use Rattle.disc.specs.Copies.{first_readable}
 
 is-served-requires : tie.Need-is-served-requires
 is-served-requires c κs = search rules
@@ -15,7 +15,7 @@ contains-requires : tie.Need-contains-requires
 contains-requires c κs = search rules
 
 returns : tie.Need-returns
-unfolding firstReadable
+unfolding first_readable
 returns c = λ i. c.before.before.is-served.ensures i && c.contains.ensures i
 
 pub first-readable-spec : {M : Type 1} → statement M

@@ -3,7 +3,7 @@ use mathlib.Core.Bool.{◌&&◌}
 use borrow.Author.Rules.{rules}
 use Rattle.disc.proofs.copies.second_readable.Statement.{statement}
 use Rattle.disc.proofs.copies.second_readable.Tie as tie
-use Rattle.disc.specs.Copies.{secondReadable}
+use Rattle.disc.specs.Copies.{second_readable}
 
 is-served-requires : tie.Need-is-served-requires
 is-served-requires c κs = search rules
@@ -18,7 +18,7 @@ contains-requires : tie.Need-contains-requires
 contains-requires c κs = search rules
 
 returns : tie.Need-returns
-unfolding secondReadable
+unfolding second_readable
 returns c = λ i. c.before.before.before.is-served.ensures i && c.before.before.has-second.ensures i && c.contains.ensures i
 
 pub second-readable-spec : {M : Type 1} → statement M

@@ -14,7 +14,7 @@ run-differs-requires-2 c κs = search rules
 
 returns : tie.Need-returns
 returns c = let st = c.before.before.before.before in let a = st.args in
-    (λ i. c.before.run_differs.ensures i || c.run-differs2.ensures i) ∙ sym (master_copies_differ_lem a.format a.image.now a.table.now st.requires.0 st.requires.1)
+    (λ i. c.before.run_differs_lem.ensures i || c.run-differs2.ensures i) ∙ sym (master_copies_differ_lem a.format a.image.now a.table.now st.requires.0 st.requires.1)
 
 pub master-copies-differ-spec : {M : Type 1} → statement M
 master-copies-differ-spec =

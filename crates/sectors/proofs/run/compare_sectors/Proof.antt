@@ -1,11 +1,8 @@
 -- `sectors::run::compare_sectors` meets its contract: a run that is not refused is compared. Assumes nothing.
-use Rattle.std.proofs.Common.{◌≡◌, ℕ, ◌*◌, Bool, false, cond, List, length, take, sym, ap, ◌∙◌, arith, rules}
+use Rattle.std.proofs.Common.{◌≡◌, ℕ, ◌*◌, Bool, cond, List, length, take, sym, ap, ◌∙◌, arith, rules}
 use Rattle.sectors.specs.Bytes.{same}
 use Rattle.sectors.specs.Format.{sector_size}
-use Rattle.sectors.specs.Options.{given}
-use Rattle.sectors.specs.Pool.{source_of}
-use Rattle.sectors.specs.PoolLaws.{single_there, single_run}
-use Rattle.sectors.specs.Source.{run_of}
+use Rattle.sectors.specs.Sector.{run_data}
 use Rattle.sectors.specs.Run.{read_refusal, comparison_of}
 use Rattle.sectors.specs.RunLaws.{not_refused, compares, compares_not}
 use Rattle.sectors.proofs.run.compare_sectors.Statement.{statement}
@@ -14,12 +11,10 @@ use Rattle.sectors.proofs.run.compare_sectors.Tie as tie
 -- the answer of a run that was compared
 compared : (format : ℕ) (image : List ℕ) (lsn count : ℕ) (bytes : List ℕ) {r : ℕ} {t : Bool}
     → r ≡ read_refusal format (length image) lsn count 0 (length bytes) → r ≡ 0
-    → t ≡ same (given (run_of (source_of false format image image) lsn count)) (take (count * sector_size) bytes)
+    → t ≡ same (run_data format image lsn count) (take (count * sector_size) bytes)
     → record { refusal = r; equal = cond t 1 0 } ≡ comparison_of format image lsn count bytes
 compared format image lsn count bytes e zero test =
-    let there = (not_refused format (length image) lsn count 0 (length bytes) (sym e ∙ zero)).0 in
-    let so = test ∙ ap (λ (l : List ℕ). same l (take (count * sector_size) bytes)) (single_run format image image lsn count there) in
-    (λ i. record { refusal = zero i; equal = cond (so i) 1 0 }) ∙ sym (compares format image lsn count bytes (sym e ∙ zero))
+    (λ i. record { refusal = zero i; equal = cond (test i) 1 0 }) ∙ sym (compares format image lsn count bytes (sym e ∙ zero))
 
 read-refusal-requires : tie.Need-read-refusal-requires
 read-refusal-requires c κs = search rules
@@ -38,7 +33,7 @@ same-run-requires c κs =
     let a = c.before.before.before.before.before.args in
     let p = not_refused a.format (length a.image.now) a.lsn.0 a.count 0 (length a.bytes.now)
     (sym c.before.before.read-refusal.ensures ∙ c.before.if1.false) in
-    (single_there a.format a.image.now a.image.now a.lsn.0 a.count ∙ p.0, omega arith)
+    (p.0, omega arith)
 
 returns-2 : tie.Need-returns-2
 returns-2 c =

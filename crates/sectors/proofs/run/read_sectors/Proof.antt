@@ -1,7 +1,5 @@
 -- `sectors::run::read_sectors` meets its contract: a run that is not refused is copied. Assumes nothing.
-use Rattle.std.proofs.Common.{ℕ, List, length, sym, ap, ◌∙◌, rules}
-use Rattle.sectors.specs.Fill.{fill}
-use Rattle.sectors.specs.PoolLaws.{single_there, single_run}
+use Rattle.std.proofs.Common.{length, sym, ◌∙◌, rules}
 use Rattle.sectors.specs.RunLaws.{not_refused, read_fills, read_leaves}
 use Rattle.sectors.proofs.run.read_sectors.Statement.{statement}
 use Rattle.sectors.proofs.run.read_sectors.Tie as tie
@@ -15,20 +13,17 @@ cast-copy-run c = search rules
 copy-run-requires : tie.Need-copy-run-requires
 copy-run-requires c κs =
     let a = c.before.before.before.before.before.before.args in
-    let p = not_refused a.format (length a.image.now) a.lsn.0 a.count a.at (length a.buf.now)
-    (sym c.before.before.before.read-refusal.ensures ∙ c.before.before.if1.true) in
-    (single_there a.format a.image.now a.image.now a.lsn.0 a.count ∙ p.0, p.1)
+    not_refused a.format (length a.image.now) a.lsn.0 a.count a.at (length a.buf.now)
+    (sym c.before.before.before.read-refusal.ensures ∙ c.before.before.if1.true)
 
 same_length : tie.Need-same-length
 same_length c = search rules
 
 returns : tie.Need-returns
 returns c =
-    let a = c.before.before.before.before.before.before.before.before.before.args in let r = c.before.before.before.before.before.before.read-refusal in
-    let p = not_refused a.format (length a.image.now) a.lsn.0 a.count a.at (length a.buf.now) (sym r.ensures ∙ c.before.before.before.before.before.if1.true) in (
+    let a = c.before.before.before.before.before.before.before.before.before.args in let r = c.before.before.before.before.before.before.read-refusal in (
       r.ensures,
-      c.before.before.copy_run.ensures ∙ ap (λ (l : List ℕ). fill a.at l a.buf.now) (single_run a.format a.image.now a.image.now a.lsn.0 a.count p.0)
-          ∙ sym (read_fills a.format a.image.now a.lsn.0 a.count a.at a.buf.now (sym r.ensures ∙ c.before.before.before.before.before.if1.true)),
+      c.before.before.copy_run.ensures ∙ sym (read_fills a.format a.image.now a.lsn.0 a.count a.at a.buf.now (sym r.ensures ∙ c.before.before.before.before.before.if1.true)),
     )
 
 returns-2 : tie.Need-returns-2
