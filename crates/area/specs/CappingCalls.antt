@@ -6,14 +6,14 @@ use base.Logic.{SProp, ent, via}
 use contract.Monad.{fact, fact_mono}
 use Rattle.area.specs.Capping.{LoneCapped}
 use Rattle.area.specs.CappingLaws.{lone_capped}
-use Rattle.area.specs.Lent.{Lent}
+use Rattle.area.specs.Lent.{Shown, Lent}
 use Rattle.area.specs.Lone.{Lone, lone_of, lone_answer, lone_tracks, lone_words}
 use Rattle.area.specs.declared.lone.TableAnswer.{TableAnswer}
 use Rattle.area.specs.declared.track.Track.{Track}
 
 -- what is lent to it, as it finds and leaves it, and its answer
 pub record TableCall : Type 0 where
-  pub table : Lent ℕ
+  pub table : Shown ℕ
   pub tracks : Lent Track
   pub words : Lent ℕ
   pub answer : TableAnswer

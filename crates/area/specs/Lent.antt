@@ -1,11 +1,14 @@
 -- Lent lists, and what is written into them. Assumes nothing.
 use Rattle.std.specs.Prelude.{ℕ, ◌+◌, ◌-◌, min, Bool, true, false, List, [], ◌∷◌, length}
-use Rattle.std.specs.Borrow.{Bor}
+use Rattle.std.specs.Borrow.{Bor, MutBor}
 use denote.Triple.Both.{Both}
 
--- a lent list, as a call finds it and as it leaves it
+-- a list that a call only reads, and one that is lent to it, as the call finds it and as it leaves it
+abbrev pub Shown : Type 0 → Type 0
+Shown A = Both (Bor (List A)) (Bor (List A))
+
 abbrev pub Lent : Type 0 → Type 0
-Lent A = Both (Bor (List A)) (Bor (List A))
+Lent A = Both (MutBor (List A)) (MutBor (List A))
 
 module _ {A : Type 0} where
   -- one element or none

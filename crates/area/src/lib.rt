@@ -1,4 +1,6 @@
 // The area tables of an SACD: the walk of their sub-structures, the area record, tracks, warnings and texts.
+#![tactic(auto)]
+
 pub mod area;
 pub mod bytes;
 pub mod cap;

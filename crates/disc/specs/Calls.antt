@@ -5,7 +5,7 @@ use Rattle.std.proofs.Common.{sym}
 use seplogic.Ra.Ura.{Ura}
 use base.Logic.{ent}
 use contract.Monad.{fact, fact_mono}
-use Rattle.area.specs.Lent.{Lent}
+use Rattle.area.specs.Lent.{Shown, Lent}
 use Rattle.area.specs.declared.track.Track.{Track}
 use Rattle.disc.specs.Outcome.{Memory, Outcome}
 use Rattle.disc.specs.Disc.{read_disc}
@@ -35,7 +35,7 @@ told c e = sym (λ i. record { answer = e.0 i; memory = record { work = e.1.0 i;
 -- its arguments, and its answer
 pub record LentCall : Type 0 where
   pub format : ℕ
-  pub image : Lent ℕ
+  pub image : Shown ℕ
   pub work : Lent ℕ
   pub tracks : Lent Track
   pub words : Lent ℕ

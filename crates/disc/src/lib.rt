@@ -1,4 +1,6 @@
 // The tables of an SACD image: the master record, the areas of both slots, disc reading, and decoding of what it read.
+#![tactic(auto)]
+
 pub mod answer;
 mod copies;
 pub mod decode;

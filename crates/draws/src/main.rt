@@ -1,4 +1,6 @@
 // The items of the table on standard input, drawn from a cursor: those of each track, the end, and the end again.
+#![tactic(auto)]
+
 ghost use Rattle.std.specs.Prelude.{◌≡◌};
 
 use area::cursor::{count_items, draw, text_cursor};

@@ -1,4 +1,6 @@
 // The listing of the lone table on standard input.
+#![tactic(auto)]
+
 use libc::{STDIN_FILENO, STDOUT_FILENO};
 use listing_text::listing::{LISTING_PAGE, MAX_LISTED, list_table};
 

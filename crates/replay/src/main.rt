@@ -2,6 +2,8 @@
 //
 // A table is a row of records: place and count, four bytes each, big-endian, then so many bytes that stand at that place. All others are
 // zero. A count of 0 ends the table, and its place is the table's length.
+#![tactic(auto)]
+
 use libc::{STDIN_FILENO, STDOUT_FILENO};
 use listing_text::listing::{LISTING_PAGE, list_table};
 use sectors::number::be32_at;

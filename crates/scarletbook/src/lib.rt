@@ -1,4 +1,6 @@
 // What C and Rust link: the functions of the layers below, under names that begin `scarletbook_`. Each hands an answer on.
+#![tactic(auto)]
+
 ghost use Rattle.std.specs.Prelude.{◌≡◌, ◌↔◌, List, [], ◌∷◌, ℕ, ◌*◌, ◌%◌, ◌^◌, length};
 ghost use Rattle.area.specs.Cap.{cap_of};
 ghost use Rattle.area.specs.Items.{draw_at};

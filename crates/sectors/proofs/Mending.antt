@@ -19,13 +19,13 @@ abbrev changed_at : ℕ → ℕ → List ℕ → List ℕ
 changed_at n s h = set h (5 - n) (get_or h (5 - n) 0 ⊕ s)
 
 -- six bytes, their values at 1 and at α, and the exponent that the program finds
-module _ (h : List ℕ) (six : SixBytes h) {s t n : ℕ} (at_one : s ≡ at_one h) (at-alpha : t ≡ at_alpha h) (least : LeastExponent s t n) where
+module _ (h : List ℕ) (six : SixBytes h) {s t n : ℕ} (one_is : s ≡ at_one h) (alpha_is : t ≡ at_alpha h) (least : LeastExponent s t n) where
   pub beyond_answer : 6 ≤ n → unmended beyond_mending ≡ mended_of h
   beyond_answer far =
       sym (none_found h six (record {
         none_mends = λ w.
             let q = w.mends in
-            let takes : times_power (5 - q.place) s ≡ t = rw (at_one, at-alpha) (sym (alpha_tells_place h w.mended six q)) in
+            let takes : times_power (5 - q.place) s ≡ t = rw (one_is, alpha_is) (sym (alpha_tells_place h w.mended six q)) in
             omega (arith, q.inside, least.is_least (5 - q.place) takes);
       }))
 
@@ -37,12 +37,12 @@ module _ (h : List ℕ) (six : SixBytes h) {s t n : ℕ} (at_one : s ≡ at_one 
     changed_six = six_set h (5 - n) _ six (sum_lt (six.its_bytes (5 - n)) s-lt)
 
     zero_at_one : at_one (changed_at n s h) ≡ 0
-    zero_at_one = one_changed h six.its_bytes (5 - n) s s-lt inside ∙ (rw (← at_one) (sum_self s))
+    zero_at_one = one_changed h six.its_bytes (5 - n) s s-lt inside ∙ (rw (← one_is) (sum_self s))
 
     zero_at_alpha : at_alpha (changed_at n s h) ≡ 0
     zero_at_alpha =
         let behind : length h - suc (5 - n) ≡ n = omega (arith, six.its_length) in
-        alpha_changed h six.its_bytes (5 - n) s s-lt inside ∙ (rw (behind, least.takes (omega arith), ← at-alpha) (sum_self t))
+        alpha_changed h six.its_bytes (5 - n) s s-lt inside ∙ (rw (behind, least.takes (omega arith), ← alpha_is) (sum_self t))
 
     pub changed_answer : {copied : List ℕ} → copied ≡ h → mended_to (set copied (5 - n) (get_or h (5 - n) 0 ⊕ s)) ≡ mended_of h
     changed_answer is-copy =

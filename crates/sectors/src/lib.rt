@@ -1,4 +1,6 @@
 // The sectors of an SACD image, the numbers in its tables, the header audit, mending and the fingerprint.
+#![tactic(auto)]
+
 pub mod bytes;
 mod field;
 pub mod fnv;

@@ -1,5 +1,7 @@
 // The customer's sheet, and cards of disc reading: a disc image is made in memory for each run, and what is read of it is written under
 // the run's name.
+#![tactic(auto)]
+
 mod image;
 mod print;
 

@@ -2,6 +2,8 @@
 //
 // A disc is its format, its name in 28 bytes, and a row of records: place and count, then so many bytes that stand at that place of the
 // image. All others are zero. A count of 0 ends the disc, and its place is the image's length. A number is four bytes, big-endian.
+#![tactic(auto)]
+
 ghost use Rattle.std.specs.Prelude.{◌≡◌, length};
 
 mod numbers;

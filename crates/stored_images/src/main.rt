@@ -1,4 +1,6 @@
 // The stored images on standard input, gathered for the tape store and scattered: what a plain writing gives of them is the file stdout.
+#![tactic(auto)]
+
 use libc::{STDIN_FILENO, STDOUT_FILENO};
 use sectors::fnv::digest;
 use tape::store::{gather_sectors, scatter_sectors};

@@ -1,4 +1,6 @@
 // The files that the arguments name, each a table, with their listings.
+#![tactic(auto)]
+
 use libc::STDOUT_FILENO;
 use listing_text::listing::{LISTING_PAGE, MAX_LISTED, list_table};
 

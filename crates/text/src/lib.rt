@@ -1,4 +1,6 @@
 // The texts of an SACD table: stored strings, character sets, decoding to UTF-8 (by a lent mapping too), fixed fields and language codes.
+#![tactic(auto)]
+
 pub mod charset;
 pub mod decode;
 mod element;

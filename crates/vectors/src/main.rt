@@ -1,4 +1,6 @@
 // Published vectors of FNV-1a, and cards of the header audit, of mending, of the fingerprint, the texts and the areas, written one to a line.
+#![tactic(auto)]
+
 mod areas;
 mod mends;
 mod texts;
