@@ -8,9 +8,9 @@ use Rattle.scarletbook.specs.declared.DrawAnswer.{DrawAnswer}
 unfoldable pub flag_of : Bool → ℕ
 flag_of test = cond test 1 0
 
-unfoldable pub capAnswer : Capped → CapAnswer
-capAnswer c =
+unfoldable pub cap_answer : Capped → CapAnswer
+cap_answer c =
     record { start_frame = c.start_frame; duration_frames = c.duration_frames; past_playtime = flag_of c.past_playtime }
 
-unfoldable pub drawAnswer : Drawn → DrawAnswer
-drawAnswer d = record { found = flag_of d.found; kind = d.kind; place = d.place; len = d.len; next = d.next; left = d.left }
+unfoldable pub draw_answer : Drawn → DrawAnswer
+draw_answer d = record { found = flag_of d.found; kind = d.kind; place = d.place; len = d.len; next = d.next; left = d.left }

@@ -26,7 +26,7 @@ ghost use Rattle.text.specs.Decode.{decode_of, decode_into};
 ghost use Rattle.text.specs.Fixed.{fixed_bytes_of, fixed_text_of};
 ghost use Rattle.text.specs.Language.{language_of};
 ghost use Rattle.text.specs.String.{string_at, end_of};
-ghost use Rattle.scarletbook.specs.Answers.{flag_of, capAnswer, drawAnswer};
+ghost use Rattle.scarletbook.specs.Answers.{flag_of, cap_answer, draw_answer};
 
 use area::area::Area;
 use area::cap::Capped;
@@ -276,7 +276,7 @@ fn flag(test: bool) -> u8
 }
 
 fn cap_answer(capped: Capped) -> CapAnswer
-    ensures { result ≡ capAnswer capped }
+    ensures { result ≡ cap_answer capped }
 {
     let start_frame = capped.start_frame;
     let duration_frames = capped.duration_frames;
@@ -288,7 +288,7 @@ fn cap_answer(capped: Capped) -> CapAnswer
 }
 
 fn draw_answer(drawn: Drawn) -> DrawAnswer
-    ensures { result ≡ drawAnswer drawn }
+    ensures { result ≡ draw_answer drawn }
 {
     DrawAnswer {
         found: flag(drawn.found),
@@ -311,7 +311,7 @@ pub extern "C" fn scarletbook_frame_number(time: Timecode) -> Frame
 // A track's times as they are if they end within the play time, else capped at it.
 #[unsafe(no_mangle)]
 pub extern "C" fn scarletbook_cap(start: Frame, duration: Frame, playtime: Frame) -> CapAnswer
-    ensures { result ≡ capAnswer (cap_of start duration playtime) }
+    ensures { result ≡ cap_answer (cap_of start duration playtime) }
 {
     cap_answer(area::cap::cap(start, duration, playtime))
 }
@@ -319,7 +319,7 @@ pub extern "C" fn scarletbook_cap(start: Frame, duration: Frame, playtime: Frame
 // The next item of a track's text from a place on, of so many that are left.
 #[unsafe(no_mangle)]
 pub extern "C" fn scarletbook_draw_at(table: &[u8], next: usize, left: usize) -> DrawAnswer
-    ensures { result ≡ drawAnswer (draw_at table.now next left) }
+    ensures { result ≡ draw_answer (draw_at table.now next left) }
 {
     draw_answer(area::items::draw_at(table, next, left))
 }

@@ -6,6 +6,7 @@ ghost use Rattle.text.specs.Charset.{charset_of};
 pub const LATIN_1: u8 = 0;
 
 // The set of a code: 3 to 6, or Latin-1.
+#[tactic(auto, unfolding(crate::specs::Charset::charset_of, crate::specs::Charset::set_of, crate::specs::Charset::is_mapped))]
 pub fn charset(code: u8) -> u8
     ensures { result ≡ charset_of code }
 {

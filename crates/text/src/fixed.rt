@@ -19,6 +19,7 @@ pub struct FixedText {
 }
 
 // The bytes of a field up to the first zero byte, as a part of the field; of a longer field the first 16 count.
+#[tactic(auto, using(crate::specs::StringLaws::until_taken, sectors::specs::FillLaws::take_cut), unfolding(crate::specs::Fixed::field_text))]
 fn field_text<'a>(field: &'a [u8]) -> &'a [u8]
     ensures { result.now ≡ field_text field.now }
 {
@@ -38,6 +39,7 @@ fn sixteen(text: &[u8]) -> [u8; FIELD_SIZE]
 }
 
 // A text of at most 16 bytes by value, with its length.
+#[tactic(auto, unfolding(crate::specs::Fixed::fixed_of))]
 fn fixed_of(text: &[u8]) -> FixedText
     requires { length text.now ≤ field_size }
     ensures { result ≡ fixed_of text.now }
@@ -49,6 +51,7 @@ fn fixed_of(text: &[u8]) -> FixedText
 }
 
 // The text of a field as it is stored.
+#[tactic(auto, using(crate::specs::FixedLaws::field_text_short), unfolding(crate::specs::Fixed::fixed_bytes_of))]
 pub fn fixed_bytes(field: &[u8]) -> FixedText
     ensures { result ≡ fixed_bytes_of field.now }
 {
@@ -56,6 +59,7 @@ pub fn fixed_bytes(field: &[u8]) -> FixedText
 }
 
 // The text of a field, trimmed at both ends.
+#[tactic(auto, using(crate::specs::FixedLaws::trimmed_short), unfolding(crate::specs::Fixed::fixed_text_of))]
 pub fn fixed_text(field: &[u8]) -> FixedText
     ensures { result ≡ fixed_text_of field.now }
 {

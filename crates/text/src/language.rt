@@ -17,6 +17,7 @@ pub struct LanguageCode {
 }
 
 // Whether a character does not count at a code's end.
+#[tactic(auto, unfolding(crate::specs::Language::is_zero_orBlank))]
 fn is_zero_or_blank(b: u8) -> bool
     ensures { result ≡ is_zero_orBlank b }
 {
@@ -24,6 +25,7 @@ fn is_zero_or_blank(b: u8) -> bool
 }
 
 // The language that two characters name.
+#[tactic(auto, using(crate::proofs::LanguageCases::code_two, crate::proofs::LanguageCases::code_one, crate::proofs::LanguageCases::code_none))]
 pub fn language(code: [u8; LANGUAGE_SIZE]) -> LanguageCode
     ensures { result ≡ language_of code }
 {

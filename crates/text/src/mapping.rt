@@ -34,6 +34,7 @@ const SINGLE_WIDTH: u32 = 256;
 const PAIR_WIDTH: u32 = 65536;
 
 // Whether a number is a code point, and no surrogate.
+#[tactic(auto, unfolding(crate::specs::Mapping::is_point, crate::specs::Mapping::is_surrogate))]
 fn is_point(n: u32) -> bool
     ensures { result ≡ is_point n }
 {
@@ -41,6 +42,7 @@ fn is_point(n: u32) -> bool
 }
 
 // Whether a number is a value, of a mapping with so many doubles.
+#[tactic(auto, unfolding(crate::specs::Mapping::is_value))]
 fn is_value(count: u32, value: u32) -> bool
     ensures { result ≡ is_value count value }
 {
@@ -48,6 +50,7 @@ fn is_value(count: u32, value: u32) -> bool
 }
 
 // Whether entries have keys that rise and are below a width, and values of a mapping with so many doubles; every entry is looked at.
+#[tactic(auto, using(crate::specs::MappingLaws::above_is, crate::specs::MappingLaws::sound_start, crate::specs::MappingLaws::sound_next, crate::specs::MappingLaws::sound_end))]
 fn entries_sound(entries: &[u32], width: u32, count: u32) -> bool
     ensures { result ≡ entries_sound width count 0 entries.now }
 {
@@ -67,6 +70,7 @@ fn entries_sound(entries: &[u32], width: u32, count: u32) -> bool
 }
 
 // Whether every word is a code point; every word is looked at.
+#[tactic(auto, using(crate::specs::MappingLaws::points_next, crate::specs::MappingLaws::points_end))]
 fn all_points(words: &[u32]) -> bool
     ensures { result ≡ all_points words.now }
 {
@@ -80,6 +84,7 @@ fn all_points(words: &[u32]) -> bool
 }
 
 // The place behind the entries whose count stands at a place.
+#[tactic(auto, unfolding(crate::specs::Mapping::behind, crate::specs::Mapping::count_at))]
 fn behind_entries(words: &[u32], at: usize) -> usize
     requires { at < length words.now }
     ensures { result ≡ behind words.now at }
@@ -88,6 +93,7 @@ fn behind_entries(words: &[u32], at: usize) -> usize
 }
 
 // Where the parts of words stand.
+#[tactic(auto, using(crate::specs::PartsLaws::parts_cut, crate::specs::PartsLaws::parts_whole, crate::specs::MappingLaws::whole_none, crate::specs::MappingLaws::whole_singles, crate::specs::MappingLaws::whole_pairs, crate::specs::MappingLaws::whole_left, crate::specs::MappingLaws::whole_all), unfolding(crate::specs::Parts::not_whole, crate::specs::Mapping::pairs_at, crate::specs::Mapping::doubles_at, crate::specs::Mapping::words_end, crate::specs::Mapping::double_count, crate::specs::Mapping::count_at))]
 pub(crate) fn parts_of(words: &[u32]) -> Parts
     ensures { result ≡ parts_of words.now }
 {
@@ -114,6 +120,7 @@ pub(crate) fn parts_of(words: &[u32]) -> Parts
 }
 
 // The entries between the place of their count and their end.
+#[tactic(auto, using(sectors::specs::FillLaws::slice_part), unfolding(crate::specs::Mapping::entries_at, crate::specs::Mapping::behind))]
 fn entries_at<'a>(words: &'a [u32], at: usize, end: usize) -> &'a [u32]
     requires { (end ≡ behind words.now at) × (end ≤ length words.now) }
     ensures { result.now ≡ entries_at words.now at }
@@ -123,6 +130,7 @@ fn entries_at<'a>(words: &'a [u32], at: usize, end: usize) -> &'a [u32]
 }
 
 // The three lists of words whose parts stand so.
+#[tactic(auto, unfolding(crate::specs::Mapping::singles_of))]
 pub(crate) fn singles_of<'a>(words: &'a [u32], parts: Parts) -> &'a [u32]
     requires { WholeAt words.now parts }
     ensures { result.now ≡ singles_of words.now }
@@ -130,6 +138,7 @@ pub(crate) fn singles_of<'a>(words: &'a [u32], parts: Parts) -> &'a [u32]
     entries_at(words, 0, parts.pairs_at)
 }
 
+#[tactic(auto, using(crate::specs::PartsLaws::parts_places), unfolding(crate::specs::Mapping::pairs_of))]
 pub(crate) fn pairs_of<'a>(words: &'a [u32], parts: Parts) -> &'a [u32]
     requires { WholeAt words.now parts }
     ensures { result.now ≡ pairs_of words.now }
@@ -137,6 +146,7 @@ pub(crate) fn pairs_of<'a>(words: &'a [u32], parts: Parts) -> &'a [u32]
     entries_at(words, parts.pairs_at, parts.doubles_at)
 }
 
+#[tactic(auto, using(crate::specs::PartsLaws::parts_ends))]
 pub(crate) fn doubles_of<'a>(words: &'a [u32], parts: Parts) -> &'a [u32]
     requires { WholeAt words.now parts }
     ensures { result.now ≡ doubles_of words.now }
@@ -145,6 +155,7 @@ pub(crate) fn doubles_of<'a>(words: &'a [u32], parts: Parts) -> &'a [u32]
 }
 
 // Whether words are a mapping, by where their parts stand.
+#[tactic(auto, using(crate::specs::MappingLaws::mapping_cut, crate::specs::PartsLaws::parts_say))]
 pub(crate) fn is_mapping(words: &[u32], parts: Parts) -> bool
     requires { parts ≡ parts_of words.now }
     ensures { result ≡ is_mapping words.now }

@@ -4,6 +4,7 @@ ghost use Rattle.text.specs.While.{take_while, drop_while_end};
 ghost use Rattle.text.specs.White.{is_white, trimmed};
 
 // Whether a byte is white space: hexadecimal 09-0D, 1C-20, 85, A0.
+#[tactic(auto, unfolding(crate::specs::White::is_white))]
 fn is_w(b: u8) -> bool
     ensures { result ≡ is_white b }
 {
@@ -11,6 +12,7 @@ fn is_w(b: u8) -> bool
 }
 
 // Where the white space at the start ends.
+#[tactic(auto, using(crate::specs::WhileLaws::scan_more, crate::specs::WhileLaws::scan_stop, crate::specs::WhileLaws::scan_end))]
 fn white_start(bytes: &[u8]) -> usize
     ensures { result ≡ length (take_while is_white bytes.now) }
 {
@@ -25,6 +27,7 @@ fn white_start(bytes: &[u8]) -> usize
 }
 
 // Where the white space at the end begins.
+#[tactic(auto, using(crate::proofs::Trimming::end_more, crate::proofs::Trimming::end_all))]
 fn white_end(bytes: &[u8]) -> usize
     ensures { result ≡ length (drop_while_end is_white bytes.now) }
 {
@@ -39,6 +42,7 @@ fn white_end(bytes: &[u8]) -> usize
 }
 
 // Bytes without the white space at both ends, as a part of them.
+#[tactic(auto, using(crate::specs::WhileLaws::while_length, crate::specs::WhileLaws::drop_while_end_front))]
 pub(crate) fn trim<'a>(bytes: &'a [u8]) -> &'a [u8]
     ensures { result.now ≡ trimmed bytes.now }
 {
