@@ -1,6 +1,6 @@
 -- The verdicts of the header audit: the tests by which the program comes to one give its number, and an answer with that number means what the contract says.
 -- Assumes nothing.
-use Rattle.std.proofs.Common.{◌≡◌, ℕ, ◌+◌, ◌*◌, Bool, true, false, not, ◌↔◌, List, length, get_or, ◌∙◌, arith, w8, Fits}
+use Rattle.std.proofs.Common.{◌≡◌, ℕ, ◌+◌, ◌*◌, Bool, true, false, ◌↔◌, List, length, get_or, ◌∙◌, arith, w8, Fits}
 use mathlib.Core.Bool.{and-false}
 use Rattle.sectors.specs.Fill.{part}
 use Rattle.sectors.specs.Format.{stored_size}
@@ -21,13 +21,13 @@ module _ (format : ℕ) (image : List ℕ) (lsn : ℕ) where
 
   -- what the audit's contract says of an answer
   pub right : ((i : ℕ) → Fits w8 (get_or image i 0)) → (r : AuditResult) → Answers r
-      → Answers r × (Exactly r audit.Sound Sound × (Exactly r audit.Blank Blank × Exactly r audit.Unsound Unsound))
+      → record { answer : Answers r; sound : Exactly r audit.Sound Sound; blank : Exactly r audit.Blank Blank; unsound : Exactly r audit.Unsound Unsound }
   right bytes r e =
       let means = result_means format image lsn (λ i. omega (arith, bytes i)) r e in
-      (e, (means.sound_iff, (means.blank_iff, means.unsound_iff)))
+      record { answer = e; sound = means.sound_iff; blank = means.blank_iff; unsound = means.unsound_iff }
 
   -- of the header that the program finds
-  module _ (two : format ≡ header_format) {there : Bool} (known : there ≡ readable format (length image) lsn 1) (found : not there ≡ false) where
+  module _ (two : format ≡ header_format) {there : Bool} (known : there ≡ readable format (length image) lsn 1) (found : there ≡ true) where
     module _ {six : List ℕ} (is-part : six ≡ part (lsn * stored_size format + 0) header_size image) where
       verdict_answer : (r : AuditResult) → answer_of r ≡ record { refusal = 0; verdict = verdict_of six } → Answers r
       unfolding audit_of

@@ -1,7 +1,6 @@
 -- The checks before a header is looked at, as the program makes them, for any answer: the tests by which it comes to a refusal give that, and those by which it
 -- comes to the header give what is said of it. Assumes nothing.
-use Rattle.std.proofs.Common.{◌≡◌, ℕ, ◌+◌, ◌*◌, ◌≤◌, Bool, true, false, not, ◌≢◌, List, length, get_or, sym, ap, ◌∙◌, add-zero, arith, w8, Fits}
-use borrow.Author.Tests.{not-true, not-false}
+use Rattle.std.proofs.Common.{◌≡◌, ℕ, ◌+◌, ◌*◌, ◌≤◌, Bool, true, false, ◌≢◌, List, length, get_or, sym, ap, ◌∙◌, add-zero, arith, w8, Fits}
 use Rattle.sectors.specs.Fill.{part}
 use Rattle.sectors.specs.Format.{foreign, layout_of, stored_size}
 use Rattle.sectors.specs.Refusal.{foreign_format, no_such_entry, no_header}
@@ -19,13 +18,13 @@ module _ (format : ℕ) (image : List ℕ) (lsn : ℕ) (two : format ≡ header_
   there_in_two = rw two at known
 
   -- the header that the program finds
-  module _ (found : not there ≡ false) where
+  module _ (found : there ≡ true) where
     pub header_there : (readable format (length image) lsn 1 ≡ true) × (0 + header_size ≤ stored_size format)
     unfolding stored_size layout_of
-    header_there = (sym known ∙ not-false there found, rw two (omega arith))
+    header_there = (sym known ∙ found, rw two (omega arith))
 
     lies_there : There format image lsn
-    lies_there = (two, sym there_in_two ∙ not-false there found)
+    lies_there = (two, sym there_in_two ∙ found)
 
     module _ {six : List ℕ} (is-part : six ≡ part (lsn * stored_size format + 0) header_size image) where
       six_is : six ≡ header_at image lsn
@@ -47,10 +46,10 @@ module _ {A : Type 0} (refuse : ℕ → A) (say : List ℕ → A) (format : ℕ)
     no_header_answer e other = sym (no_header_checked refuse say format image lsn (sym known ∙ e) other)
 
   module _ (two : format ≡ header_format) {there : Bool} (known : there ≡ readable format (length image) lsn 1) where
-    pub missing_answer : not there ≡ true → Answers (refuse no_such_entry)
-    missing_answer e = sym (missing_checked refuse say format image lsn two (sym (there_in_two format image lsn two known) ∙ not-true there e))
+    pub missing_answer : there ≡ false → Answers (refuse no_such_entry)
+    missing_answer e = sym (missing_checked refuse say format image lsn two (sym (there_in_two format image lsn two known) ∙ e))
 
-    module _ (found : not there ≡ false) {six : List ℕ} (is-part : six ≡ part (lsn * stored_size format + 0) header_size image) where
+    module _ (found : there ≡ true) {six : List ℕ} (is-part : six ≡ part (lsn * stored_size format + 0) header_size image) where
       pub header_answer : Answers (say six)
       header_answer =
           ap say (six_is format image lsn two known found is-part)

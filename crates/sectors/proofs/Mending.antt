@@ -61,10 +61,19 @@ module _ (format : ℕ) (image : List ℕ) (lsn : ℕ) where
   BackFrom r correct = HeaderIn (OneByteChanged correct) format image lsn → r ≡ mended_to correct
 
   pub right : ((i : ℕ) → Fits w8 (get_or image i 0)) → (r : Mended) → r ≡ mend_of format image lsn
-      → (r ≡ mend_of format image lsn)
-      × ((r.refusal ≡ 0 ↔ HeaderIn Mendable format image lsn)
-      × ((r.refusal ≡ 0 → Mends (header_at image lsn) r.header)
-      × ((r.refusal ≡ beyond_mending ↔ HeaderIn BeyondMending format image lsn) × ((correct : List ℕ) → BackFrom r correct))))
+      → record {
+        answer : r ≡ mend_of format image lsn;
+        mendable : r.refusal ≡ 0 ↔ HeaderIn Mendable format image lsn;
+        mends : r.refusal ≡ 0 → Mends (header_at image lsn) r.header;
+        beyond : r.refusal ≡ beyond_mending ↔ HeaderIn BeyondMending format image lsn;
+        comes_back : (correct : List ℕ) → BackFrom r correct;
+      }
   right bytes r e =
       let means = mend_means format image lsn (λ i. omega (arith, bytes i)) in
-      (e, rw e (means.mendable_iff, (means.header_mends, (means.beyond_iff, means.comes_back))))
+      record {
+        answer = e;
+        mendable = rw e means.mendable_iff;
+        mends = rw e means.header_mends;
+        beyond = rw e means.beyond_iff;
+        comes_back = rw e means.comes_back;
+      }

@@ -51,6 +51,7 @@ pub fn digest(bytes: &[u8]) -> u64
 }
 
 // The digest of a sector's data bytes.
+#[tactic(auto, unfolding(crate::specs::Fnv::fingerprint_of))]
 pub fn fingerprint(format: u32, image: &[u8], lsn: Lsn) -> FingerprintAnswer
     ensures { result ≡ fingerprint_of format image.now lsn.0 }
 {

@@ -67,6 +67,7 @@ pub(crate) fn at_alpha(h: &[u8]) -> u8
 }
 
 // Whether bytes are zero at 1 and at α: six are then a multiple of (x + 1)(x + α).
+#[tactic(auto, unfolding(crate::specs::Header::is_multiple))]
 fn is_multiple(h: &[u8]) -> bool
     ensures { result ≡ is_multiple h.now }
 {
@@ -74,6 +75,7 @@ fn is_multiple(h: &[u8]) -> bool
 }
 
 // Whether bytes are those of a blank header, six zeros.
+#[tactic(auto, unfolding(crate::specs::Header::is_blank))]
 fn is_blank(h: &[u8]) -> bool
     requires { length h.now ≡ 6 }
     ensures { result ≡ is_blank h.now }
@@ -109,6 +111,7 @@ pub fn audit(format: u32, image: &[u8], lsn: Lsn) -> AuditResult
 }
 
 // The numbers of an audit's answer.
+#[tactic(auto, unfolding(crate::specs::Audit::answer_of))]
 pub fn audit_answer(a: AuditResult) -> AuditAnswer
     ensures { result ≡ answer_of a }
 {

@@ -22,6 +22,7 @@ pub(crate) struct Layout {
 }
 
 // Whether a format is none of `Plain`, `Raw2054`, `Raw2064`.
+#[tactic(auto, unfolding(crate::specs::Format::foreign))]
 pub fn is_foreign(format: u32) -> bool
     ensures { result ≡ foreign format }
 {
@@ -29,6 +30,7 @@ pub fn is_foreign(format: u32) -> bool
 }
 
 // How sectors are stored in a format; zeros for a foreign one.
+#[tactic(auto, unfolding(crate::specs::Format::layout_of))]
 fn layout_of(format: u32) -> Layout
     ensures { result ≡ layout_of format }
 {
@@ -53,6 +55,7 @@ fn layout_of(format: u32) -> Layout
 }
 
 // Whole sectors in so many bytes; none in a foreign format.
+#[tactic(auto, unfolding(crate::specs::Sector::sector_count, crate::specs::Format::stored_size))]
 pub fn sector_count(format: u32, bytes: usize) -> usize
     ensures { result ≡ sector_count format bytes }
 {
@@ -65,6 +68,7 @@ pub fn sector_count(format: u32, bytes: usize) -> usize
 }
 
 // Whether so many sectors from an address on are readable in an image of so many bytes.
+#[tactic(auto, using(crate::specs::SectorLaws::not_readable), unfolding(crate::specs::Sector::readable))]
 pub fn contains(format: u32, bytes: usize, lsn: Lsn, count: usize) -> bool
     ensures { result ≡ readable format bytes lsn.0 count }
 {
@@ -95,6 +99,7 @@ pub(crate) fn stored_part<'a>(
 }
 
 // The data bytes of a sector that is in the image, as a part of it.
+#[tactic(auto, using(crate::specs::SectorLaws::data_fits, crate::specs::SectorLaws::sector_is), unfolding(crate::specs::Format::data_offset))]
 pub(crate) fn stored_data<'a>(format: u32, image: &'a [u8], n: usize) -> &'a [u8]
     requires { readable format (length image.now) n 1 ≡ true }
     ensures bytes { result.now ≡ sector_data format image.now n }
@@ -105,6 +110,7 @@ pub(crate) fn stored_data<'a>(format: u32, image: &'a [u8], n: usize) -> &'a [u8
 }
 
 // The data bytes of a sector, as a part of the image; empty, at its start, if it is not in the image.
+#[tactic(auto, using(crate::specs::SectorLaws::sector_missing, crate::specs::SectorLaws::data_starts, crate::specs::SectorLaws::data_missing, crate::specs::FillLaws::start_whole))]
 pub fn sector_data<'a>(format: u32, image: &'a [u8], lsn: Lsn) -> &'a [u8]
     ensures bytes { result.now ≡ sector_data format image.now lsn.0 }
     ensures placed { result.ref_ptr ≡ start_at image.entry.ref_ptr (data_start format (length image.now) lsn.0) }
@@ -116,6 +122,7 @@ pub fn sector_data<'a>(format: u32, image: &'a [u8], lsn: Lsn) -> &'a [u8]
 }
 
 // Whether a signature stands where the data of a sector begin, whether the sector is whole or not; false in a foreign format.
+#[tactic(auto, unfolding(crate::specs::Sector::begins_with, crate::specs::Format::stored_size, crate::specs::Format::data_offset))]
 pub fn begins_with(format: u32, image: &[u8], lsn: Lsn, signature: [u8; 8]) -> bool
     ensures { result ≡ begins_with format image.now lsn.0 signature }
 {
