@@ -1,5 +1,5 @@
 -- What the lists of `fill_tracks` hold after the first i tracks of a table: none, one track more, and all of them. Assumes nothing.
---     tracksTo, count_to, words_to      the list of tracks, the count of words and the words after i tracks
+--     tracks_to, count_to, words_to      the list of tracks, the count of words and the words after i tracks
 use mathlib.Core.Path.{◌≡◌, refl, sym, ◌∙◌, ap}
 use mathlib.Core.List.{List, [], ◌∷◌, ◌++◌, map, flat_map, map-append, append_assoc, append-nil}
 use Prim.Native.Nat.{ℕ, ◌+◌, ◌≤◌, ◌<◌, ◌^◌}
@@ -112,3 +112,6 @@ module _ (lent : List ℕ) (head : TableHead) where
     pub words_all : words_to (track_count head) ≡ sets old count (map word_of (warnings_in lent head))
     unfolding words_to warnings_in reads_in
     words_all = refl
+
+-- what a turn of the loop goes by
+pub ruleset one_more = (few_tracks, tracks_none, tracks_more, count_none, count_more, words_none, words_more)

@@ -1,4 +1,3 @@
-pub mod Elem
 pub mod Filling
 pub mod Keeping
 pub mod TextArray

@@ -71,6 +71,7 @@ pub struct Area {
 }
 
 // Which signature a table begins with; 0 for neither.
+#[tactic(auto, unfolding(crate::specs::Area::kind_of))]
 pub(crate) fn kind_of(table: &[u8]) -> u8
     ensures { result ≡ kind_of table.now }
 {
@@ -84,6 +85,7 @@ pub(crate) fn kind_of(table: &[u8]) -> u8
 }
 
 // The low four bits of a byte.
+#[tactic(auto, unfolding(crate::specs::Area::low_four))]
 fn low_four(b: u8) -> u8
     ensures { result ≡ low_four b }
 {
@@ -91,6 +93,7 @@ fn low_four(b: u8) -> u8
 }
 
 // How many locales are listed.
+#[tactic(auto, unfolding(crate::specs::Locale::locale_count))]
 fn locale_count(channels: u8) -> u8
     ensures { result ≡ locale_count channels }
 {
@@ -102,6 +105,7 @@ fn locale_count(channels: u8) -> u8
 }
 
 // The places of an area's texts.
+#[tactic(auto, unfolding(crate::specs::Area::area_texts_at, crate::specs::Tabulate::tabulate))]
 fn area_texts_at(table: &[u8]) -> [TextPlace; AREA_TEXTS]
     ensures { result ≡ area_texts_at table.now }
 {
@@ -114,6 +118,7 @@ fn area_texts_at(table: &[u8]) -> [TextPlace; AREA_TEXTS]
 }
 
 // The record of a table's area.
+#[tactic(auto, unfolding(crate::specs::Area::record_of, crate::specs::Area::addressed, crate::specs::Units::lsn_at))]
 pub(crate) fn record_of(table: &[u8], slot: u8, lsn: Lsn, sectors: u16) -> Area
     ensures { result ≡ addressed lsn.0 (record_of table.now slot sectors) }
 {
@@ -152,6 +157,7 @@ pub(crate) fn record_of(table: &[u8], slot: u8, lsn: Lsn, sectors: u16) -> Area
 }
 
 // The record of no area.
+#[tactic(auto, unfolding(crate::specs::Area::no_area))]
 pub fn no_area() -> Area
     ensures { result ≡ no_area }
 {

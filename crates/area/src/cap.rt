@@ -21,6 +21,7 @@ fn lesser_frame(a: Frame, b: Frame) -> Frame
 }
 
 // Start and duration as they are if they end within the play time; else the start is capped at it, the duration at what remains.
+#[tactic(auto, unfolding(crate::specs::Cap::cap_of, crate::specs::Cap::exceeds, crate::specs::Cap::capped, crate::specs::Cap::uncapped))]
 pub fn cap(start: Frame, duration: Frame, playtime: Frame) -> Capped
     ensures { result ≡ cap_of start duration playtime }
 {

@@ -35,6 +35,7 @@ fn structure_if(test: bool, then: Structure, otherwise: Structure) -> Structure
 }
 
 // The sub-structure whose signature stands at a place.
+#[tactic(auto, unfolding(crate::specs::Chain::structure_at))]
 fn structure_at(table: &[u8], at: usize) -> Structure
     ensures { result ≡ structure_at table.now at }
 {
@@ -66,6 +67,7 @@ fn structure_at(table: &[u8], at: usize) -> Structure
 }
 
 // How many sectors the walk advances past a structure; 0 stops it.
+#[tactic(auto, unfolding(crate::specs::Chain::sectors_of))]
 fn sectors_of(s: Structure) -> usize
     ensures { result ≡ sectors_of s }
 {
@@ -80,6 +82,7 @@ fn sectors_of(s: Structure) -> usize
 }
 
 // What the walk has kept, with a structure at a place: the first track text, the last of the others.
+#[tactic(auto, unfolding(crate::specs::Chain::noted, crate::specs::Chain::first_kept))]
 fn with_noted(s: Structure, at: u32, chain: Chain) -> Chain
     ensures { result ≡ noted s at chain }
 {
@@ -106,6 +109,7 @@ fn with_noted(s: Structure, at: u32, chain: Chain) -> Chain
 }
 
 // Nothing is kept.
+#[tactic(auto, unfolding(crate::specs::Chain::nothing_kept))]
 pub(crate) fn no_chain() -> Chain
     ensures { result ≡ nothing_kept }
 {
@@ -118,6 +122,7 @@ pub(crate) fn no_chain() -> Chain
 }
 
 // The walk, from the second sector on.
+#[tactic(auto, using(crate::proofs::Walking::left_start, crate::proofs::Walking::left_turn, crate::proofs::Walking::sectors_most))]
 pub(crate) fn walk(table: &[u8]) -> Chain
     requires { length table.now ≤ max_table_bytes }
     ensures { result ≡ chain_of table.now }

@@ -31,6 +31,7 @@ pub fn text_cursor<'a>(table: &'a [u8], next: usize, left: usize) -> TextCursor<
 }
 
 // Draws the next item, empty and unknown ones included; the cursor moves on, or stays at the end.
+#[tactic(auto, unfolding(crate::specs::Cursor::draw_of, crate::specs::Cursor::moved_on))]
 pub fn draw<'s, 'a>(cursor: &'s mut TextCursor<'a>) -> TextItem<'a>
     ensures { (result.found ≡ (draw_of cursor.old).found) × (result.kind ≡ (draw_of cursor.old).kind)
         × (result.text.now ≡ part (draw_of cursor.old).place (draw_of cursor.old).len cursor.old.table.now)
@@ -49,6 +50,7 @@ pub fn draw<'s, 'a>(cursor: &'s mut TextCursor<'a>) -> TextItem<'a>
 }
 
 // How many items there are: drawn to the end.
+#[tactic(auto, using(crate::specs::CursorLaws::drawn_first, crate::specs::CursorLaws::drawn_none_lem, crate::specs::CursorLaws::drawn_fewer))]
 pub fn count_items(table: &[u8], next: usize, left: usize) -> usize
     ensures { result ≡ length (items_from table.now next left) }
 {

@@ -14,6 +14,7 @@ use text::decode::DecodeAnswer;
 use text::stored::decode_placed;
 
 // Whether fewer bytes are lent than the table of an area's record has.
+#[tactic(auto, unfolding(crate::specs::TextDecode::table_short))]
 fn table_short(bytes: usize, area: Area) -> bool
     ensures { result ≡ table_short bytes area }
 {
@@ -22,6 +23,7 @@ fn table_short(bytes: usize, area: Area) -> bool
 }
 
 // Whether a record is that of no area.
+#[tactic(auto, unfolding(crate::specs::TextDecode::no_such_area))]
 fn no_such_area(area: Area) -> bool
     ensures { result ≡ no_such_area area }
 {
@@ -30,6 +32,7 @@ fn no_such_area(area: Area) -> bool
 }
 
 // Decodes the text at a place of an area's table, 0 for an absent one.
+#[tactic(auto, unfolding(crate::specs::TextDecode::text_at))]
 fn decode_at(lent: &[u8], area: Area, place: u32, mapping: &[u32], page: &mut [u8]) -> DecodeAnswer
     ensures answer { result ≡ decode_of (text_at lent.now area place) area.text_charset mapping.now (length page.old) }
     ensures filled { page.new ≡ decode_into (text_at lent.now area place) area.text_charset mapping.now page.old }
@@ -40,6 +43,7 @@ fn decode_at(lent: &[u8], area: Area, place: u32, mapping: &[u32], page: &mut [u
 }
 
 // Decodes a text of an area, by its item index, to the start of a page.
+#[tactic(auto, unfolding(crate::specs::TextDecode::area_text_in, crate::specs::TextDecode::text_of, crate::specs::TextDecode::place_of, crate::specs::TextDecode::text_answer, crate::specs::TextDecode::text_page, text::specs::Decode::refusing))]
 pub fn decode_area_text(
     table: &[u8],
     area: Area,
@@ -68,6 +72,7 @@ pub fn decode_area_text(
 }
 
 // The place in a list of the track of a number; for 0 the first.
+#[tactic(auto, unfolding(crate::specs::TextDecode::track_index))]
 fn track_index(number: u32) -> usize
     ensures { result ≡ track_index number }
 {
@@ -78,6 +83,7 @@ fn track_index(number: u32) -> usize
 }
 
 // Whether an area has no track of a number; above 255 tracks count as 255.
+#[tactic(auto, unfolding(crate::specs::TextDecode::no_such_track))]
 fn no_such_track(area: Area, number: u32) -> bool
     ensures { result ≡ no_such_track area number }
 {
@@ -85,6 +91,7 @@ fn no_such_track(area: Area, number: u32) -> bool
 }
 
 // Decodes the text that a track of a list of so many has at a place, by the track's number and the item index.
+#[tactic(auto, unfolding(crate::specs::TextDecode::track_text_in, crate::specs::TextDecode::text_of, crate::specs::TextDecode::text_answer, crate::specs::TextDecode::text_page, text::specs::Decode::refusing))]
 pub fn decode_of_track(
     table: &[u8],
     area: Area,
@@ -114,6 +121,7 @@ pub fn decode_of_track(
 }
 
 // Decodes a text of a track, by its number and item index, to the start of a page.
+#[tactic(auto, unfolding(crate::specs::TextDecode::track_text_by))]
 pub fn decode_track_text(
     table: &[u8],
     area: Area,

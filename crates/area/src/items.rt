@@ -17,6 +17,7 @@ pub struct Drawn {
 }
 
 // The place of the next nonzero byte, from a place on; the table's end if none follows.
+#[tactic(auto, using(crate::specs::ItemLaws::nonzero_more, crate::specs::ItemLaws::nonzero_found, crate::specs::ItemLaws::nonzero_end))]
 fn nonzero_at(table: &[u8], from: usize) -> usize
     ensures { result ≡ nonzero_at table.now from }
 {
@@ -31,6 +32,7 @@ fn nonzero_at(table: &[u8], from: usize) -> usize
 }
 
 // No item: the cursor stays.
+#[tactic(auto, unfolding(crate::specs::Items::drawn_none))]
 fn drawn_none(next: usize, left: usize) -> Drawn
     ensures { result ≡ drawn_none next left }
 {
@@ -45,6 +47,7 @@ fn drawn_none(next: usize, left: usize) -> Drawn
 }
 
 // The next item from a place on, of so many that are left, empty and unknown ones included.
+#[tactic(auto, using(crate::specs::ItemLaws::draw_none, crate::specs::ItemLaws::draw_short, text::specs::StringLaws::string_within))]
 pub fn draw_at(table: &[u8], next: usize, left: usize) -> Drawn
     ensures { result ≡ draw_at table.now next left }
 {

@@ -22,6 +22,7 @@ pub struct Locale {
 }
 
 // The locale in four bytes from a place on.
+#[tactic(auto, unfolding(crate::specs::Locale::locale_at, crate::specs::Locale::code_at))]
 fn locale_at(table: &[u8], at: usize) -> Locale
     ensures { result ≡ locale_at table.now at }
 {
@@ -34,6 +35,7 @@ fn locale_at(table: &[u8], at: usize) -> Locale
 }
 
 // The zero record.
+#[tactic(auto, unfolding(crate::specs::Locale::no_locale))]
 pub fn no_locale() -> Locale
     ensures { result ≡ no_locale }
 {
@@ -48,6 +50,7 @@ pub fn no_locale() -> Locale
 }
 
 // The locale of an index below a count, of those that stand from a place on, or the zero record.
+#[tactic(auto, unfolding(crate::specs::Locale::locale_or))]
 pub fn locale_or(table: &[u8], at: u8, k: u8, count: u8) -> Locale
     ensures { result ≡ locale_or table.now at count k }
 {
@@ -58,6 +61,7 @@ pub fn locale_or(table: &[u8], at: u8, k: u8, count: u8) -> Locale
 }
 
 // The first locales of a table, as many as a count says and the record holds; zero past them.
+#[tactic(auto, unfolding(crate::specs::Locale::locales_at, crate::specs::Tabulate::tabulate))]
 pub(crate) fn locales_at(table: &[u8], count: u8) -> [Locale; MAX_LOCALES]
     ensures { result ≡ locales_at table.now count }
 {

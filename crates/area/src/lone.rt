@@ -40,6 +40,7 @@ pub(crate) struct Plan {
 }
 
 // Whether a table of so many bytes is none: empty, above 128 sectors, or not whole sectors.
+#[tactic(auto, unfolding(crate::specs::Lone::is_odd_table))]
 pub fn is_odd_table(bytes: usize) -> bool
     ensures { result ≡ is_odd_table bytes }
 {
@@ -47,6 +48,7 @@ pub fn is_odd_table(bytes: usize) -> bool
 }
 
 // A plan that refuses: nothing is read.
+#[tactic(auto, unfolding(crate::specs::Plan::refusing))]
 fn refuse(refusal: u8) -> Plan
     ensures { result ≡ refusing refusal }
 {
@@ -58,6 +60,7 @@ fn refuse(refusal: u8) -> Plan
 }
 
 // Checks a lone table and the room for its tracks, and reads its head; its warnings are written.
+#[tactic(auto, using(crate::specs::LoneLaws::sized_small), unfolding(crate::specs::Plan::plan_of, crate::specs::Plan::plan_words, crate::specs::Lone::is_short))]
 pub(crate) fn plan_table(table: &[u8], room: usize, words: &mut [u32]) -> Plan
     ensures { (result ≡ plan_of table.now room (length words.old))
         × (words.new ≡ plan_words table.now room words.old) }
@@ -78,6 +81,7 @@ pub(crate) fn plan_table(table: &[u8], room: usize, words: &mut [u32]) -> Plan
 }
 
 // The answer of a plan, with the count of all warnings.
+#[tactic(auto, unfolding(crate::specs::Plan::plan_answer))]
 pub(crate) fn table_answer(plan: Plan, warnings: usize) -> TableAnswer
     ensures { result ≡ plan_answer plan warnings }
 {

@@ -11,6 +11,7 @@ use sectors::number::{be32_at, byte_at};
 use sectors::sector::{Lsn, SECTOR_SIZE};
 
 // Whether an area ends before it starts.
+#[tactic(auto, unfolding(crate::specs::Skip::is_reversed))]
 fn is_reversed(start: Lsn, end: Lsn) -> bool
     ensures { result ≡ is_reversed start end }
 {
@@ -18,6 +19,7 @@ fn is_reversed(start: Lsn, end: Lsn) -> bool
 }
 
 // Whether one of the two track lists is not named.
+#[tactic(auto, unfolding(crate::specs::Skip::list_missing))]
 fn list_missing(chain: Chain) -> bool
     ensures { result ≡ list_missing chain }
 {
@@ -25,6 +27,7 @@ fn list_missing(chain: Chain) -> bool
 }
 
 // Whether the list of ISRCs and genres is named, has an entry to give, and ends beyond the table.
+#[tactic(auto, unfolding(crate::specs::Skip::is_malformed))]
 fn is_malformed(table: &[u8], chain: Chain) -> bool
     ensures { result ≡ is_malformed table.now chain }
 {
@@ -34,6 +37,7 @@ fn is_malformed(table: &[u8], chain: Chain) -> bool
 }
 
 // The warning by which a table is skipped, the first that applies; 0 if none does.
+#[tactic(auto, unfolding(crate::specs::Skip::skip_by, crate::specs::Units::lsn_at))]
 pub(crate) fn skip_of(table: &[u8], chain: Chain) -> u8
     ensures { result ≡ skip_by table.now chain }
 {

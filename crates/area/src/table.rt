@@ -44,6 +44,7 @@ pub struct NextTrack {
 }
 
 // How many bytes a table of so many sectors has; above 128 count as 128.
+#[tactic(auto, unfolding(crate::specs::Limits::table_size))]
 pub(crate) fn table_size(sectors: u16) -> usize
     ensures { result ≡ table_size sectors }
 {
@@ -51,6 +52,7 @@ pub(crate) fn table_size(sectors: u16) -> usize
 }
 
 // The bytes of a table of so many sectors, as a part of what is lent.
+#[tactic(auto, unfolding(crate::specs::Limits::table_bytes))]
 pub(crate) fn table_bytes<'a>(lent: &'a [u8], sectors: u16) -> &'a [u8]
     ensures { result.now ≡ table_bytes sectors lent.now }
 {
@@ -58,6 +60,7 @@ pub(crate) fn table_bytes<'a>(lent: &'a [u8], sectors: u16) -> &'a [u8]
 }
 
 // Reads the head of a table of so many sectors, at the start of what is lent.
+#[tactic(auto, using(crate::specs::LimitLaws::table_bytes_small), unfolding(crate::specs::Table::head_of, crate::specs::Skip::skip_of))]
 pub fn table_head(lent: &[u8], slot: u8, lsn: Lsn, sectors: u16) -> TableHead
     ensures { result ≡ head_of (table_bytes sectors lent.now) slot lsn.0 sectors }
 {
@@ -142,6 +145,7 @@ fn push_track(words: &mut [u32], count: usize, slot: u8, read: TrackRead) -> usi
 }
 
 // The head of no table.
+#[tactic(auto, unfolding(crate::specs::Table::no_head))]
 pub fn no_head() -> TableHead
     ensures { result ≡ no_head }
 {
@@ -153,6 +157,7 @@ pub fn no_head() -> TableHead
 }
 
 // How many tracks a head has; above 255 count as 255.
+#[tactic(auto, unfolding(crate::specs::Table::track_count))]
 pub fn track_count(head: TableHead) -> usize
     ensures { result ≡ track_count head }
 {
@@ -161,6 +166,7 @@ pub fn track_count(head: TableHead) -> usize
 }
 
 // The track of an index by a head, counted from 0; past the last the zero record, with no warning.
+#[tactic(auto, using(crate::specs::LimitLaws::table_bytes_small), unfolding(crate::specs::Table::read_in, crate::specs::Table::track_count))]
 fn read_track(lent: &[u8], head: TableHead, i: usize) -> TrackRead
     ensures { result ≡ read_in lent.now head i }
 {

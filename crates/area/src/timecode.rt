@@ -20,6 +20,7 @@ pub struct Timecode {
 }
 
 // The frame number of a timecode.
+#[tactic(auto, unfolding(crate::specs::Timecode::frame_number))]
 pub fn frame_number(time: Timecode) -> Frame
     ensures { result ≡ frame_number time }
 {
@@ -27,6 +28,7 @@ pub fn frame_number(time: Timecode) -> Frame
 }
 
 // The timecode in three bytes from a place on.
+#[tactic(auto, unfolding(crate::specs::Timecode::timecode_at))]
 pub(crate) fn timecode_at(table: &[u8], at: usize) -> Timecode
     ensures { result ≡ timecode_at table.now at }
 {

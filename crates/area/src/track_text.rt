@@ -26,6 +26,7 @@ pub(crate) struct TrackText {
 }
 
 // The item index of a type byte, or as many as there are items.
+#[tactic(auto, unfolding(crate::specs::TrackText::item_index))]
 fn item_index(kind: u8) -> usize
     ensures { result ≡ item_index kind }
 {
@@ -76,6 +77,7 @@ fn items_kept(table: &[u8], place: usize, count: u8) -> ItemsKept
 }
 
 // No text, and a warning or 0.
+#[tactic(auto, unfolding(crate::specs::TrackText::no_text, crate::specs::TrackText::no_places))]
 fn no_text(warning: u8) -> TrackText
     ensures { result ≡ no_text warning }
 {
@@ -86,6 +88,7 @@ fn no_text(warning: u8) -> TrackText
 }
 
 // The texts of the track of an index, by the text block at a place (0: there is none).
+#[tactic(auto, using(sectors::specs::NumberLaws::be_byte), unfolding(crate::specs::TrackText::track_text_of, crate::specs::TrackText::text_behind, crate::specs::TrackText::text_offset, crate::specs::TrackText::text_at, crate::specs::TrackText::text_of))]
 pub(crate) fn track_text(table: &[u8], block: u32, i: usize) -> TrackText
     requires { (length table.now ≤ max_table_bytes) × (i < max_tracks) }
     ensures { result ≡ track_text_of table.now block i }

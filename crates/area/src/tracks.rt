@@ -41,6 +41,7 @@ pub fn place_at(tracks: &[Track], at: usize, item: u32) -> u32
 
 // Fills a list with the tracks of a table from a place on, and words with their warnings from a count on: the count of words then.
 // What does not fit is not written.
+#[tactic(auto, using(crate::proofs::Filling::one_more))]
 pub fn fill_tracks(
     lent: &[u8],
     head: TableHead,

@@ -35,6 +35,7 @@ pub struct Warning {
 }
 
 // The word of a warning.
+#[tactic(auto, unfolding(crate::specs::Warning::word_of))]
 fn word(warning: Warning) -> u32
     ensures { result ≡ word_of warning }
 {
@@ -42,6 +43,7 @@ fn word(warning: Warning) -> u32
 }
 
 // Writes a warning's word at the place that a count names, if it is to be given and fits; the count of words then.
+#[tactic(auto, unfolding(crate::specs::Lent::when_true, crate::specs::Lent::counted))]
 pub fn push(words: &mut [u32], count: usize, given: bool, warning: Warning) -> usize
     ensures written { words.new ≡ sets words.old count (map word_of (when_true given warning)) }
     ensures counted { result ≡ counted words.old count (when_true given warning) }
