@@ -57,12 +57,16 @@ module _ (format : ℕ) (uncut : List ℕ) where
 pub lent : Memory
 lent = record { work = replicate work_bytes 0; tracks = replicate track_records no_track; words = replicate warning_words 0 }
 
+-- as many places as are asked for
+is_long : {A : Type 0} (n : ℕ) (x : A) → n ≤ length (replicate n x)
+is_long n x = omega (arith, length-replicate n x)
+
 lent_roomy : Roomy lent
 unfolding lent
 lent_roomy = record {
-  work_suffices = rw (length-replicate {A = ℕ} work_bytes 0) (omega arith);
-  tracks_suffice = rw (length-replicate track_records no_track) (omega arith);
-  words_suffice = rw (length-replicate {A = ℕ} warning_words 0) (omega arith);
+  work_suffices = is_long {A = ℕ} work_bytes 0;
+  tracks_suffice = is_long {A = Track} track_records no_track;
+  words_suffice = is_long {A = ℕ} warning_words 0;
 }
 
 whole_sectors : (n : ℕ) → sector_count 0 (n * sector_size) ≡ n

@@ -1,5 +1,5 @@
 -- Laws of a slot after opening: what its region and the master region hold, and what is read from them. Assumes nothing.
-use Prim.Native.Nat.{ℕ, ◌+◌, ◌*◌, ◌≤◌}
+use Prim.Native.Nat.{ℕ, ◌*◌, ◌≤◌}
 use Rattle.std.proofs.Common.{arith, ◌∙◌, subst, take-append-drop}
 use Rattle.std.specs.Prelude.{◌≡◌, Bool, cond, length, take, drop}
 use Rattle.std.proofs.Math.Path.{refl, sym, ap}

@@ -25,6 +25,7 @@ pub struct DiscAnswer {
 }
 
 // A refusal that reads nothing.
+#[tactic(auto, unfolding(crate::specs::Disc::refusal))]
 fn refused(number: u8) -> DiscAnswer
     ensures { result ≡ refusal number }
 {
@@ -40,6 +41,7 @@ fn refused(number: u8) -> DiscAnswer
 }
 
 // The refusal of a disc without an area.
+#[tactic(auto, unfolding(crate::specs::Disc::silent))]
 fn silent(table: &[u8], warnings: usize) -> DiscAnswer
     ensures { result ≡ silent table.now warnings }
 {
@@ -55,6 +57,7 @@ fn silent(table: &[u8], warnings: usize) -> DiscAnswer
 }
 
 // The answer of an accepted disc.
+#[tactic(auto, unfolding(crate::specs::Steps::read_answer))]
 fn accepted(
     format: u32,
     sectors: usize,
@@ -78,6 +81,7 @@ fn accepted(
 }
 
 // Whether an area was read.
+#[tactic(auto, unfolding(crate::specs::Outcome::is_present))]
 fn has_area(read: SlotRead) -> bool
     ensures { result ≡ is_present read.area }
 {
@@ -86,6 +90,7 @@ fn has_area(read: SlotRead) -> bool
 }
 
 // The answer by what was opened and read.
+#[tactic(auto, unfolding(crate::specs::Steps::answer_by))]
 pub(crate) fn disc_answer(
     format: u32,
     bytes: usize,

@@ -16,6 +16,7 @@ pub(crate) struct SlotCopies {
 }
 
 // Whether a slot is used.
+#[tactic(auto, unfolding(crate::specs::Copies::is_used))]
 pub(crate) fn is_used(pointer: AreaPointer) -> bool
     ensures { result ≡ is_used pointer }
 {
@@ -24,6 +25,7 @@ pub(crate) fn is_used(pointer: AreaPointer) -> bool
 }
 
 // Whether a slot has too many sectors to be read.
+#[tactic(auto, unfolding(crate::specs::Copies::is_too_large))]
 pub(crate) fn is_too_large(pointer: AreaPointer) -> bool
     ensures { result ≡ is_too_large pointer }
 {
@@ -31,6 +33,7 @@ pub(crate) fn is_too_large(pointer: AreaPointer) -> bool
 }
 
 // Whether a slot is used and not too large.
+#[tactic(auto, unfolding(crate::specs::Copies::is_served))]
 fn is_served(pointer: AreaPointer) -> bool
     ensures { result ≡ is_served pointer }
 {
@@ -38,6 +41,7 @@ fn is_served(pointer: AreaPointer) -> bool
 }
 
 // Whether a second copy is named.
+#[tactic(auto, unfolding(crate::specs::Copies::has_second))]
 pub(crate) fn has_second(pointer: AreaPointer) -> bool
     ensures { result ≡ has_second pointer }
 {
@@ -46,6 +50,7 @@ pub(crate) fn has_second(pointer: AreaPointer) -> bool
 }
 
 // Whether the first copy is to be read, and is in an image of so many bytes.
+#[tactic(auto, unfolding(crate::specs::Copies::first_readable))]
 pub(crate) fn first_readable(format: u32, bytes: usize, pointer: AreaPointer) -> bool
     ensures { result ≡ first_readable format bytes pointer }
 {
@@ -59,6 +64,7 @@ pub(crate) fn first_readable(format: u32, bytes: usize, pointer: AreaPointer) ->
 }
 
 // The same of the second copy.
+#[tactic(auto, unfolding(crate::specs::Copies::second_readable))]
 pub(crate) fn second_readable(format: u32, bytes: usize, pointer: AreaPointer) -> bool
     ensures { result ≡ second_readable format bytes pointer }
 {
@@ -73,6 +79,7 @@ pub(crate) fn second_readable(format: u32, bytes: usize, pointer: AreaPointer) -
 }
 
 // The address of the copy that is read: the first if it is readable.
+#[tactic(auto, unfolding(crate::specs::Copies::chosen_lsn))]
 pub(crate) fn chosen_lsn(pointer: AreaPointer, toc1: bool) -> Lsn
     ensures { result ≡ chosen_lsn pointer toc1 }
 {
@@ -83,6 +90,7 @@ pub(crate) fn chosen_lsn(pointer: AreaPointer, toc1: bool) -> Lsn
 }
 
 // The copies of a slot that is not used.
+#[tactic(auto, unfolding(crate::specs::Copies::no_copies))]
 pub(crate) fn no_copies() -> SlotCopies
     ensures { result ≡ no_copies }
 {

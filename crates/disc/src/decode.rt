@@ -17,6 +17,7 @@ use text::decode::DecodeAnswer;
 use text::stored::decode_placed;
 
 // Sector 1 of the master table, where the disc's texts stand.
+#[tactic(auto, unfolding(crate::specs::TextDecode::disc_text_sector, crate::specs::Master::text_sector))]
 fn disc_text_sector<'a>(work: &'a [u8]) -> &'a [u8]
     ensures { result.now ≡ disc_text_sector work.now }
 {
@@ -24,6 +25,7 @@ fn disc_text_sector<'a>(work: &'a [u8]) -> &'a [u8]
 }
 
 // Decodes a text of the disc, by its item index, to the start of a page.
+#[tactic(auto, unfolding(crate::specs::TextDecode::disc_text_in, crate::specs::TextDecode::disc_text_at, crate::specs::TextDecode::disc_place, crate::specs::TextDecode::work_short, area::specs::TextDecode::text_answer, area::specs::TextDecode::text_page, text::specs::Decode::refusing))]
 pub fn decode_disc_text(
     work: &[u8],
     master: MasterToc,
@@ -53,6 +55,7 @@ pub fn decode_disc_text(
 }
 
 // Decodes a text of an area, by its item index, to the start of a page.
+#[tactic(auto, unfolding(crate::specs::TextDecode::area_text_on, crate::specs::TextDecode::work_short, area::specs::TextDecode::text_answer, area::specs::TextDecode::text_page, text::specs::Decode::refusing))]
 pub fn decode_disc_area_text(
     work: &[u8],
     area: Area,
@@ -74,6 +77,7 @@ pub fn decode_disc_area_text(
 }
 
 // The place in the list of an area's track of a number; for 0 that of its first.
+#[tactic(auto, unfolding(crate::specs::TextDecode::track_place))]
 fn track_place(area: Area, number: u32) -> usize
     ensures { result ≡ track_place area number }
 {
@@ -86,6 +90,7 @@ fn track_place(area: Area, number: u32) -> usize
 }
 
 // Decodes the text that a track of a list of so many has at a place, by the track's number and the item index.
+#[tactic(auto, unfolding(crate::specs::TextDecode::track_text_on, crate::specs::TextDecode::lent_short, crate::specs::TextDecode::work_short, area::specs::TextDecode::text_answer, area::specs::TextDecode::text_page, text::specs::Decode::refusing))]
 fn decode_of_disc_track(
     work: &[u8],
     area: Area,
@@ -111,6 +116,7 @@ fn decode_of_disc_track(
 }
 
 // Decodes a text of a track, by its number and item index, to the start of a page.
+#[tactic(auto, unfolding(crate::specs::TextDecode::track_text_at))]
 pub fn decode_disc_track_text(
     work: &[u8],
     area: Area,

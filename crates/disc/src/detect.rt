@@ -31,6 +31,7 @@ fn master_begins(format: u32, image: &[u8]) -> bool
 }
 
 // The answer of a format that is found.
+#[tactic(auto, unfolding(crate::specs::Detect::in_format))]
 fn in_format(format: u32) -> DetectAnswer
     ensures { result ≡ in_format format }
 {
@@ -41,6 +42,7 @@ fn in_format(format: u32) -> DetectAnswer
 }
 
 // The first format in which the master table begins at its place: plain, 2,064 bytes, 2,054 bytes; refused with 4 if none.
+#[tactic(auto, unfolding(crate::specs::Detect::detected, crate::specs::Detect::first_of))]
 pub fn detect_format(image: &[u8]) -> DetectAnswer
     ensures { result ≡ detected image.now }
 {

@@ -66,6 +66,7 @@ pub(crate) fn open(
 }
 
 // What a slot gives, by its plan and the count of all its warnings.
+#[tactic(auto, unfolding(crate::specs::Steps::slot_read_of))]
 pub(crate) fn slot_read(plan: SlotPlan, count: usize) -> SlotRead
     ensures { result ≡ slot_read_of plan count }
 {

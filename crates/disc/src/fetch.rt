@@ -47,6 +47,7 @@ pub(crate) struct Fetched {
 }
 
 // The refusal of the master table by its first sector; 0 if it is none.
+#[tactic(auto, unfolding(crate::specs::Steps::sector_refusal, crate::specs::Master::is_scarlet_book, crate::specs::Master::is_newer, crate::specs::Master::major_version))]
 fn master_refusal(sector: &[u8]) -> u8
     ensures { result ≡ sector_refusal sector.now }
 {
@@ -60,6 +61,7 @@ fn master_refusal(sector: &[u8]) -> u8
 }
 
 // The first of refusals 1 to 5 that applies; 0 if none does.
+#[tactic(auto, using(crate::specs::FetchLaws::refusal_foreign, crate::specs::FetchLaws::refusal_short, crate::specs::FetchLaws::refusal_cut, crate::specs::FetchLaws::refusal_sector), unfolding(crate::specs::Disc::is_short))]
 pub(crate) fn open_refusal(
     format: u32,
     image: &[u8],
@@ -82,6 +84,7 @@ pub(crate) fn open_refusal(
 }
 
 // Whether a readable run of sectors differs from as many lent bytes.
+#[tactic(auto, unfolding(crate::specs::Steps::run_differs))]
 fn run_differs(format: u32, image: &[u8], lsn: Lsn, sectors: usize, bytes: &[u8]) -> bool
     ensures { result ≡ run_differs format image.now lsn.0 sectors bytes.now }
 {
@@ -90,6 +93,7 @@ fn run_differs(format: u32, image: &[u8], lsn: Lsn, sectors: usize, bytes: &[u8]
 }
 
 // Whether a readable copy of the master table differs from it.
+#[tactic(auto, using(crate::specs::FetchLaws::master_copies_differ_lem))]
 fn master_copies_differ(format: u32, image: &[u8], table: &[u8]) -> bool
     requires { (foreign format ≡ false) × (length table.now ≡ master_bytes) }
     ensures { result ≡ master_copies_differ (image_source format image.now) table.now }
@@ -110,6 +114,7 @@ fn master_copies_differ(format: u32, image: &[u8], table: &[u8]) -> bool
 }
 
 // Whether a slot's second copy differs from lent bytes, if both copies are there.
+#[tactic(auto, unfolding(crate::specs::Steps::second_differs))]
 fn second_differs(
     format: u32,
     image: &[u8],

@@ -86,6 +86,7 @@ pub struct MasterToc {
 }
 
 // A slot's pointers: each number stands at its own place.
+#[tactic(auto, using(area::specs::UnitLaws::lsn_at_lem), unfolding(crate::specs::Master::pointer_at))]
 fn pointer_at(table: &[u8], toc1: usize, toc2: usize, sectors: usize) -> AreaPointer
     ensures { result ≡ pointer_at table.now toc1 toc2 sectors }
 {
@@ -97,12 +98,14 @@ fn pointer_at(table: &[u8], toc1: usize, toc2: usize, sectors: usize) -> AreaPoi
 }
 
 // The pointers of the two-channel slot, and of the multichannel slot.
+#[tactic(auto, unfolding(crate::specs::Master::pointer_of))]
 pub(crate) fn two_channel_pointer(table: &[u8]) -> AreaPointer
     ensures { result ≡ pointer_of table.now two_channel }
 {
     pointer_at(table, 64, 68, 84)
 }
 
+#[tactic(auto, unfolding(crate::specs::Master::pointer_of))]
 pub(crate) fn multichannel_pointer(table: &[u8]) -> AreaPointer
     ensures { result ≡ pointer_of table.now multichannel }
 {
@@ -110,6 +113,7 @@ pub(crate) fn multichannel_pointer(table: &[u8]) -> AreaPointer
 }
 
 // The date of a disc.
+#[tactic(auto, unfolding(crate::specs::Master::date_at))]
 fn date_at(table: &[u8]) -> Date
     ensures { result ≡ date_at table.now }
 {
@@ -121,6 +125,7 @@ fn date_at(table: &[u8]) -> Date
 }
 
 // Four genres from a place on.
+#[tactic(auto, unfolding(crate::specs::Master::genres_at, area::specs::Tabulate::tabulate))]
 fn genres_at(table: &[u8], at: u8) -> [Genre; GENRES]
     ensures { result ≡ genres_at table.now at }
 {
@@ -134,6 +139,7 @@ fn genres_at(table: &[u8], at: u8) -> [Genre; GENRES]
 }
 
 // How many locales are listed.
+#[tactic(auto, unfolding(crate::specs::Master::locale_count))]
 fn locale_count(channels: u8) -> u8
     ensures { result ≡ locale_count channels }
 {
@@ -145,6 +151,7 @@ fn locale_count(channels: u8) -> u8
 }
 
 // The first locales, as many as a count says and the record holds; zero past them.
+#[tactic(auto, unfolding(crate::specs::Master::locales_at, area::specs::Tabulate::tabulate))]
 fn locales_at(table: &[u8], count: u8) -> [Locale; MAX_DISC_LOCALES]
     ensures { result ≡ locales_at table.now count }
 {
@@ -161,6 +168,7 @@ fn locales_at(table: &[u8], count: u8) -> [Locale; MAX_DISC_LOCALES]
 }
 
 // Whether sector 1 is a text sector.
+#[tactic(auto, unfolding(crate::specs::Master::has_text))]
 pub(crate) fn has_text(table: &[u8]) -> bool
     ensures { result ≡ has_text table.now }
 {
@@ -168,6 +176,7 @@ pub(crate) fn has_text(table: &[u8]) -> bool
 }
 
 // Whether sector 9 is a manufacturer's.
+#[tactic(auto, unfolding(crate::specs::Master::has_manufacturer))]
 pub(crate) fn has_manufacturer(table: &[u8]) -> bool
     ensures { result ≡ has_manufacturer table.now }
 {
@@ -175,6 +184,7 @@ pub(crate) fn has_manufacturer(table: &[u8]) -> bool
 }
 
 // The places of a disc's texts, in sector 1.
+#[tactic(auto, unfolding(crate::specs::Master::disc_texts_at, crate::specs::Master::text_sector, area::specs::Tabulate::tabulate))]
 fn disc_texts_at(table: &[u8]) -> [TextPlace; DISC_TEXTS]
     ensures { result ≡ disc_texts_at table.now }
 {
@@ -203,6 +213,7 @@ fn disc_texts_at(table: &[u8]) -> [TextPlace; DISC_TEXTS]
 }
 
 // A flag: 1 if there is a manufacturer's sector.
+#[tactic(auto, unfolding(crate::specs::Master::manufacturer_flag))]
 fn manufacturer_flag(table: &[u8]) -> u8
     ensures { result ≡ manufacturer_flag table.now }
 {
@@ -210,6 +221,7 @@ fn manufacturer_flag(table: &[u8]) -> u8
 }
 
 // The master record of a master table.
+#[tactic(auto, unfolding(crate::specs::Master::master_of, crate::specs::Master::major_version, crate::specs::Master::album_field, crate::specs::Master::disc_field))]
 pub(crate) fn master_of(table: &[u8]) -> MasterToc
     ensures { result ≡ master_of table.now }
 {
@@ -243,6 +255,7 @@ pub(crate) fn master_of(table: &[u8]) -> MasterToc
 }
 
 // The pointers of a slot that is not used.
+#[tactic(auto, unfolding(crate::specs::Master::no_pointer))]
 pub(crate) fn no_pointer() -> AreaPointer
     ensures { result ≡ no_pointer }
 {
@@ -254,6 +267,7 @@ pub(crate) fn no_pointer() -> AreaPointer
 }
 
 // The zero record, where there is no master record.
+#[tactic(auto, unfolding(crate::specs::Master::no_master))]
 pub(crate) fn no_master() -> MasterToc
     ensures { result ≡ no_master }
 {

@@ -41,6 +41,7 @@ pub const TWO_CHANNEL_SLOT: u8 = 1;
 pub const MULTICHANNEL_SLOT: u8 = 2;
 
 // The region of a slot's table: the second for slot 2, else the first.
+#[tactic(auto, unfolding(crate::specs::Slot::region_of, crate::specs::Slot::region_at))]
 pub(crate) fn region_of<'a>(work: &'a [u8], slot: u8) -> &'a [u8]
     ensures { result.now ≡ region_of slot work.now }
 {
@@ -58,6 +59,7 @@ pub(crate) fn master_region<'a>(work: &'a [u8]) -> &'a [u8]
 }
 
 // The place of a slot's first track: 255 for slot 2, else 0.
+#[tactic(auto, unfolding(crate::specs::Slot::tracks_from, crate::specs::Slot::tracks_at))]
 pub(crate) fn tracks_from(slot: u8) -> u32
     ensures { result ≡ tracks_from slot }
 {

@@ -1,7 +1,11 @@
 pub mod Ascii
 pub mod Elements
+pub mod Filling
+pub mod Halving
 pub mod LanguageCases
+pub mod Measuring
 pub mod Padding
+pub mod Rules
 pub mod Stores
 pub mod Tests
 pub mod Trimming

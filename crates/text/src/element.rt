@@ -20,6 +20,7 @@ const REPLACEMENT: u32 = 0xFFFD;
 const SHIFT_JIS: u8 = 3;
 
 // Whether a pair is reserved in Shift JIS. (The Rust's `SJIS_RESERVED`.)
+#[tactic(auto, unfolding(crate::specs::Mapped::is_reserved, crate::specs::Mapped::is_in))]
 fn is_reserved(key: u32) -> bool
     ensures { result ≡ is_reserved key }
 {
@@ -34,6 +35,7 @@ fn is_reserved(key: u32) -> bool
 }
 
 // The value of a byte by itself. Where every byte up to it has one, it stands at the byte's own place.
+#[tactic(auto, using(crate::specs::MappedLaws::value_there, crate::specs::MappedLaws::value_none))]
 fn single_value(singles: &[u32], byte: u8) -> u32
     requires { Rising singles.now }
     ensures { result ≡ value_in singles.now byte }
@@ -53,6 +55,7 @@ fn single_value(singles: &[u32], byte: u8) -> u32
 }
 
 // What stands at a place: two bytes that are a pair of the mapping or, in set 3, a reserved one; else one byte.
+#[tactic(auto, using(crate::proofs::Rules::elements))]
 pub(crate) fn element_at(bytes: &[u8], i: usize, set: u8, singles: &[u32], pairs: &[u32]) -> Element
     requires { (i < length bytes.now) × Rising singles.now × Rising pairs.now }
     ensures { result ≡ element_of singles.now pairs.now set (drop i bytes.now) }

@@ -16,6 +16,7 @@ use crate::utf8::put_character;
 const MOST_BYTES: usize = 8;
 
 // How many bytes the UTF-8 of a character has.
+#[tactic(auto, using(crate::proofs::Rules::utf8_sizes, crate::specs::Utf8Laws::blanked_below, crate::specs::Utf8Laws::blanked_high))]
 fn point_length(point: u32) -> usize
     ensures { result ≡ length (utf8 (blanked point)) }
 {
@@ -32,6 +33,7 @@ fn point_length(point: u32) -> usize
 }
 
 // How many bytes the text of a value has.
+#[tactic(auto, using(std::proofs::lemmas::Grind::common_steps, crate::specs::ElementLaws::value_one, crate::specs::ElementLaws::value_two, crate::specs::Utf8Laws::utf8_length))]
 fn value_length(doubles: &[u32], value: u32) -> usize
     requires { HasPoints doubles.now value }
     ensures { result ≡ length (value_text doubles.now value) }
@@ -44,6 +46,7 @@ fn value_length(doubles: &[u32], value: u32) -> usize
 }
 
 // Writes the text of a value from a place on; answers the place behind it.
+#[tactic(auto, using(crate::specs::ElementLaws::value_one))]
 fn put_value(page: &mut [u8], at: usize, doubles: &[u32], value: u32) -> usize
     requires { HasPoints doubles.now value × (at + length (value_text doubles.now value) ≤ length page.old) }
     ensures written { page.new ≡ fill at (value_text doubles.now value) page.old }
@@ -58,6 +61,7 @@ fn put_value(page: &mut [u8], at: usize, doubles: &[u32], value: u32) -> usize
 }
 
 // Whether the text of a string has at most so many bytes: what is left of them is counted down.
+#[tactic(auto, using(crate::specs::PartsLaws::mapping_whole_at))]
 fn fits(bytes: &[u8], set: u8, words: &[u32], parts: Parts, room: usize) -> bool
     requires { MappingAt words.now parts }
     ensures { result ≡ leb (length (mapped_text words.now set bytes.now)) room }
@@ -80,6 +84,7 @@ fn fits(bytes: &[u8], set: u8, words: &[u32], parts: Parts, room: usize) -> bool
 }
 
 // The same, without a look at the bytes where there is room for whatever they give.
+#[tactic(auto, using(std::proofs::lemmas::Bool::Decides::nat_tests, crate::specs::MappedLaws::text_most), unfolding(crate::specs::Element::mapped_text))]
 fn has_room(bytes: &[u8], set: u8, words: &[u32], parts: Parts, room: usize) -> bool
     requires { MappingAt words.now parts }
     ensures { result ≡ leb (length (mapped_text words.now set bytes.now)) room }
@@ -91,6 +96,7 @@ fn has_room(bytes: &[u8], set: u8, words: &[u32], parts: Parts, room: usize) -> 
 }
 
 // Writes the text of a string to the start of a page; answers how many bytes it has.
+#[tactic(auto, using(crate::specs::PartsLaws::mapping_whole_at))]
 fn put_mapped(bytes: &[u8], set: u8, words: &[u32], parts: Parts, page: &mut [u8]) -> usize
     requires { MappingAt words.now parts × (length (mapped_text words.now set bytes.now) ≤ length page.old) }
     ensures filled { page.new ≡ fill 0 (mapped_text words.now set bytes.now) page.old }
@@ -110,6 +116,7 @@ fn put_mapped(bytes: &[u8], set: u8, words: &[u32], parts: Parts, page: &mut [u8
 }
 
 // Decodes a string of set 3 to 6 by a mapping; an absent one without a look at it.
+#[tactic(auto, using(crate::proofs::Rules::mapped), unfolding(crate::specs::Decode::giving, crate::specs::Decode::refusing, crate::specs::Decode::answer_in, crate::specs::Decode::page_with, crate::specs::Element::mapped_text))]
 pub(crate) fn decode_mapped(bytes: &[u8], set: u8, words: &[u32], page: &mut [u8]) -> DecodeAnswer
     ensures answer { result ≡ answer_in (length page.old) (unless_absent bytes.now (mapped_of words.now set bytes.now)) }
     ensures filled { page.new ≡ page_with (unless_absent bytes.now (mapped_of words.now set bytes.now)) page.old }

@@ -7,6 +7,7 @@ ghost use Rattle.text.specs.Utf8.{blanked, utf8};
 const BLANK: u32 = 0x20;
 
 // A code point; a blank in place of one below 32.
+#[tactic(auto, unfolding(crate::specs::Utf8::blanked))]
 pub(crate) fn blank_low(point: u32) -> u32
     ensures { result ≡ blanked point }
 {
@@ -14,6 +15,7 @@ pub(crate) fn blank_low(point: u32) -> u32
 }
 
 // Writes a code point from a place on; answers the place behind it.
+#[tactic(auto, using(std::proofs::lemmas::Grind::common_steps, crate::proofs::Rules::utf8_sizes))]
 fn put_utf8(page: &mut [u8], at: usize, point: u32) -> usize
     requires { (at + length (utf8 point) ≤ length page.old) × (point < 0x110000) }
     ensures { (page.new ≡ fill at (utf8 point) page.old) × (result ≡ at + length (utf8 point)) }
@@ -41,6 +43,7 @@ fn put_utf8(page: &mut [u8], at: usize, point: u32) -> usize
 }
 
 // The same of a character of a text: a blank in place of a code point below 32.
+#[tactic(auto, using(crate::specs::Utf8Laws::blanked_below))]
 pub(crate) fn put_character(page: &mut [u8], at: usize, point: u32) -> usize
     requires { (at + length (utf8 (blanked point)) ≤ length page.old) × (point < 0x110000) }
     ensures { (page.new ≡ fill at (utf8 (blanked point)) page.old) × (result ≡ at + length (utf8 (blanked point))) }
