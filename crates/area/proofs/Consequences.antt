@@ -6,7 +6,7 @@ use prog.Routine.{Routine}
 use types.Logic.{Logic}
 use contract.Lifetimes.{Lfts}
 use contract.Monad.{Fun, fact}
-use Rattle.area.specs.CappingCalls.{TableCall, TableCapped, table_capped}
+use Rattle.area.proofs.CappingCalls.{TableCall, TableCapped, table_capped}
 use Rattle.area.specs.contracts.lone.read_table as read
 
 module _ {M : Type 1} {𝓤 : Ura M} (𝓛 : Logic 𝓤) (mem : Store → SProp 𝓤) (run : Routine → Fun 𝓤) (κs : Lfts 3) where

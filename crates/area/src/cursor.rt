@@ -50,7 +50,7 @@ pub fn draw<'s, 'a>(cursor: &'s mut TextCursor<'a>) -> TextItem<'a>
 }
 
 // How many items there are: drawn to the end.
-#[tactic(auto, using(crate::specs::CursorLaws::drawn_first, crate::specs::CursorLaws::drawn_none_lem, crate::specs::CursorLaws::drawn_fewer))]
+#[tactic(auto, using(crate::proofs::CursorLaws::drawn_first, crate::proofs::CursorLaws::drawn_none_lem, crate::proofs::CursorLaws::drawn_fewer))]
 pub fn count_items(table: &[u8], next: usize, left: usize) -> usize
     ensures { result ≡ length (items_from table.now next left) }
 {

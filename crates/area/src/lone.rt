@@ -60,7 +60,7 @@ fn refuse(refusal: u8) -> Plan
 }
 
 // Checks a lone table and the room for its tracks, and reads its head; its warnings are written.
-#[tactic(auto, using(crate::specs::LoneLaws::sized_small), unfolding(crate::specs::Plan::plan_of, crate::specs::Plan::plan_words, crate::specs::Lone::is_short))]
+#[tactic(auto, using(crate::proofs::LoneLaws::sized_small), unfolding(crate::specs::Plan::plan_of, crate::specs::Plan::plan_words, crate::specs::Lone::is_short))]
 pub(crate) fn plan_table(table: &[u8], room: usize, words: &mut [u32]) -> Plan
     ensures { (result ≡ plan_of table.now room (length words.old))
         × (words.new ≡ plan_words table.now room words.old) }

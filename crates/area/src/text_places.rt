@@ -39,7 +39,7 @@ pub(crate) fn text_at(size: usize, place: u32, len: usize) -> TextPlace
 }
 
 // The text whose offset stands in two bytes from a place on.
-#[tactic(auto, using(crate::specs::TextPlaceLaws::placed_text_lem, text::specs::StringLaws::present_length), unfolding(crate::specs::TextPlaces::text_place_at, crate::specs::TextPlaces::is_absent))]
+#[tactic(auto, using(crate::proofs::TextPlaceLaws::placed_text_lem, text::proofs::StringLaws::present_length), unfolding(crate::specs::TextPlaces::text_place_at, crate::specs::TextPlaces::is_absent))]
 pub fn text_place_at(table: &[u8], at: usize) -> TextPlace
     ensures { result ≡ text_place_at table.now at }
 {

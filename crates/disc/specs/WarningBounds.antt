@@ -9,10 +9,10 @@ use Rattle.std.proofs.Math.ListN.{length}
 use Rattle.sectors.specs.Bytes.{same}
 use Rattle.sectors.specs.Number.{be_at}
 use Rattle.sectors.specs.Source.{Source}
-use Rattle.area.specs.LentLaws.{when_length}
+use Rattle.area.proofs.LentLaws.{when_length}
 use Rattle.area.specs.Limits.{max_tracks, max_head_warnings, max_track_warnings}
 use Rattle.area.specs.Table as Area
-use Rattle.area.specs.TableLaws.{area_of, address_warnings, warnings_most}
+use Rattle.area.proofs.TableLaws.{area_of, address_warnings, warnings_most}
 use Rattle.area.specs.Lone.{table_words}
 use Rattle.disc.specs.Copies.{is_used, is_too_large, has_second, first_copy, second_copy, is_there, unequal, copies_of, served_warnings, copy_warnings, chosen_of, chosen, table_in, warnings_in, slot_table, slot_warnings}
 use Rattle.disc.specs.Disc.{master_copies_differ, disc_warnings, warnings_of}

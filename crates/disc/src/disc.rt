@@ -110,10 +110,10 @@ pub fn read_disc(
     tracks: &mut [Track],
     words: &mut [u32],
 ) -> DiscAnswer
-    ensures { (result ≡ (read_disc format image.now (record { work = work.entry.now; tracks = tracks.old; words = words.old })).answer)
-        × ((work.exit.now ≡ (read_disc format image.now (record { work = work.entry.now; tracks = tracks.old; words = words.old })).memory.work)
-        × ((tracks.new ≡ (read_disc format image.now (record { work = work.entry.now; tracks = tracks.old; words = words.old })).memory.tracks)
-        × (words.new ≡ (read_disc format image.now (record { work = work.entry.now; tracks = tracks.old; words = words.old })).memory.words))) }
+    ensures { (result ≡ (read_disc format image.now (record { work = work.old; tracks = tracks.old; words = words.old })).answer)
+        × ((work.new ≡ (read_disc format image.now (record { work = work.old; tracks = tracks.old; words = words.old })).memory.work)
+        × ((tracks.new ≡ (read_disc format image.now (record { work = work.old; tracks = tracks.old; words = words.old })).memory.tracks)
+        × (words.new ≡ (read_disc format image.now (record { work = work.old; tracks = tracks.old; words = words.old })).memory.words))) }
 {
     let opened = open(format, image, work, tracks.len(), words);
     let tables: &[u8] = work;

@@ -27,7 +27,7 @@ pub(crate) struct SlotPlan {
 }
 
 // Writes a warning of a slot (0: of the disc), if it is to be given.
-#[tactic(auto, using(area::specs::WarningLaws::of_slot_lem))]
+#[tactic(auto, using(area::proofs::WarningLaws::of_slot_lem))]
 fn push_of(words: &mut [u32], count: usize, given: bool, code: u8, slot: u8) -> usize
     ensures written { words.new ≡ sets words.old count (map word_of (when_true given (of_slot code slot))) }
     ensures counted { result ≡ counted words.old count (when_true given (of_slot code slot)) }
@@ -70,7 +70,7 @@ fn push_unreadable(words: &mut [u32], count: usize, slot: u8, copies: SlotCopies
 }
 
 // Writes the warnings of a slot's copies.
-#[tactic(auto, using(area::specs::LentLaws::when_given, area::specs::LentLaws::counted_none), unfolding(crate::specs::Copies::copy_warnings))]
+#[tactic(auto, using(area::proofs::LentLaws::when_given, area::proofs::LentLaws::counted_none), unfolding(crate::specs::Copies::copy_warnings))]
 fn push_copies(words: &mut [u32], count: usize, slot: u8, copies: SlotCopies) -> usize
     ensures written { words.new ≡ sets words.old count (map word_of (copy_warnings slot copies)) }
     ensures counted { result ≡ counted words.old count (copy_warnings slot copies) }

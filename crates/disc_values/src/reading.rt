@@ -36,10 +36,10 @@ pub fn read_disc_by_value(
     tracks: [Track; TRACK_RECORDS],
     words: &mut [u32],
 ) -> Reading
-    ensures { (result.answer ≡ (read_disc format image.now (record { work = work.entry.now; tracks = tracks; words = words.old })).answer)
-        × ((work.exit.now ≡ (read_disc format image.now (record { work = work.entry.now; tracks = tracks; words = words.old })).memory.work)
-        × ((result.tracks ≡ (read_disc format image.now (record { work = work.entry.now; tracks = tracks; words = words.old })).memory.tracks)
-        × (words.new ≡ (read_disc format image.now (record { work = work.entry.now; tracks = tracks; words = words.old })).memory.words))) }
+    ensures { (result.answer ≡ (read_disc format image.now (record { work = work.old; tracks = tracks; words = words.old })).answer)
+        × ((work.new ≡ (read_disc format image.now (record { work = work.old; tracks = tracks; words = words.old })).memory.work)
+        × ((result.tracks ≡ (read_disc format image.now (record { work = work.old; tracks = tracks; words = words.old })).memory.tracks)
+        × (words.new ≡ (read_disc format image.now (record { work = work.old; tracks = tracks; words = words.old })).memory.words))) }
 {
     let mut list = tracks;
     let answer = read_disc(format, image, work, &mut list, words);

@@ -5,7 +5,7 @@ use Prim.Native.Nat.{ℕ}
 use lib.ListN.{length}
 use lib.Seq.{sets, length-sets}
 use Rattle.area.specs.Lent.{counted}
-use Rattle.area.specs.LentLaws.{counted_none, counted_then, sets_counted}
+use Rattle.area.proofs.LentLaws.{counted_none, counted_then, sets_counted}
 
 -- what a page holds after a text is written from a place on, and the place behind what fits of it
 abbrev pub Writes : List ℕ → ℕ → List ℕ → List ℕ → ℕ → Type 0

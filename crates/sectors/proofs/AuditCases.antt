@@ -7,7 +7,7 @@ use Rattle.sectors.specs.Format.{stored_size}
 use Rattle.sectors.specs.Sector.{readable}
 use Rattle.sectors.specs.Header.{Sound, Blank, Unsound, is_multiple, is_blank, is_sound}
 use Rattle.sectors.specs.Audit.{HeaderIn, answer_of, verdict_of, audit_of, header_format, header_size}
-use Rattle.sectors.specs.AuditLaws.{result_means}
+use Rattle.sectors.proofs.AuditLaws.{result_means}
 use Rattle.sectors.specs.declared.header.AuditResult.{AuditResult}
 use Rattle.sectors.specs.declared.header.AuditResult.TheVariants as audit
 use Rattle.sectors.proofs.HeaderCases.{header_answer}

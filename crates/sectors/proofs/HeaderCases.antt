@@ -7,7 +7,7 @@ use Rattle.sectors.specs.Refusal.{foreign_format, no_such_entry, no_header}
 use Rattle.sectors.specs.Sector.{readable}
 use Rattle.sectors.specs.Header.{SixBytes}
 use Rattle.sectors.specs.Audit.{header_or, header_format, header_size, header_at}
-use Rattle.sectors.specs.AuditLaws.{There, header_length, foreign_checked, no_header_checked, missing_checked, there_checked}
+use Rattle.sectors.proofs.AuditLaws.{There, header_length, foreign_checked, no_header_checked, missing_checked, there_checked}
 
 -- six elements of type u8
 pub known_six : (h : List ℕ) → length h ≡ header_size → ((i : ℕ) → Fits w8 (get_or h i 0)) → SixBytes h

@@ -7,11 +7,11 @@ use Rattle.sectors.specs.Header.{SixBytes, at_one, at_alpha}
 use Rattle.sectors.specs.Audit.{HeaderIn, header_at}
 use Rattle.sectors.specs.Log.{times_power, LeastExponent}
 use Rattle.sectors.specs.Mend.{Mends, Mendable, BeyondMending, OneByteChanged, mended_to, unmended, mended_of, mend_of}
-use Rattle.sectors.specs.XorLaws.{sum_lt, sum_self}
-use Rattle.sectors.specs.HeaderLaws.{zeros_multiple}
-use Rattle.sectors.specs.ChangeLaws.{one_changed, alpha_changed}
-use Rattle.sectors.specs.DistanceLaws.{six_set, alpha_tells_place}
-use Rattle.sectors.specs.MendLaws.{found, none_found, mend_means}
+use Rattle.sectors.proofs.XorLaws.{sum_lt, sum_self}
+use Rattle.sectors.proofs.HeaderLaws.{zeros_multiple}
+use Rattle.sectors.proofs.ChangeLaws.{one_changed, alpha_changed}
+use Rattle.sectors.proofs.DistanceLaws.{six_set, alpha_tells_place}
+use Rattle.sectors.proofs.MendLaws.{found, none_found, mend_means}
 use Rattle.sectors.specs.declared.mend.Mended.{Mended}
 
 -- a header changed by s at the place that n bytes stand behind

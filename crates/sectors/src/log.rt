@@ -31,7 +31,7 @@ fn log_of(x: u8) -> u8
 }
 
 // The least n for which α to the n takes one value to another, the difference of their logarithms modulo 255; 255 if there is none.
-#[tactic(auto, using(crate::specs::LogLaws::same_exponent, crate::specs::LogLaws::from_zero, crate::specs::LogLaws::to_zero, crate::specs::LogLaws::by_logs))]
+#[tactic(auto, using(crate::proofs::LogLaws::same_exponent, crate::proofs::LogLaws::from_zero, crate::proofs::LogLaws::to_zero, crate::proofs::LogLaws::by_logs))]
 pub(crate) fn least_exponent(from: u8, to: u8) -> usize
     ensures { LeastExponent from to result }
 {

@@ -68,7 +68,7 @@ pub fn sector_count(format: u32, bytes: usize) -> usize
 }
 
 // Whether so many sectors from an address on are readable in an image of so many bytes.
-#[tactic(auto, using(crate::specs::SectorLaws::not_readable), unfolding(crate::specs::Sector::readable))]
+#[tactic(auto, using(crate::proofs::SectorLaws::not_readable), unfolding(crate::specs::Sector::readable))]
 pub fn contains(format: u32, bytes: usize, lsn: Lsn, count: usize) -> bool
     ensures { result ≡ readable format bytes lsn.0 count }
 {
@@ -99,7 +99,7 @@ pub(crate) fn stored_part<'a>(
 }
 
 // The data bytes of a sector that is in the image, as a part of it.
-#[tactic(auto, using(crate::specs::SectorLaws::data_fits, crate::specs::SectorLaws::sector_is), unfolding(crate::specs::Format::data_offset))]
+#[tactic(auto, using(crate::proofs::SectorLaws::data_fits, crate::proofs::SectorLaws::sector_is), unfolding(crate::specs::Format::data_offset))]
 pub(crate) fn stored_data<'a>(format: u32, image: &'a [u8], n: usize) -> &'a [u8]
     requires { readable format (length image.now) n 1 ≡ true }
     ensures bytes { result.now ≡ sector_data format image.now n }
@@ -110,7 +110,7 @@ pub(crate) fn stored_data<'a>(format: u32, image: &'a [u8], n: usize) -> &'a [u8
 }
 
 // The data bytes of a sector, as a part of the image; empty, at its start, if it is not in the image.
-#[tactic(auto, using(crate::specs::SectorLaws::sector_missing, crate::specs::SectorLaws::data_starts, crate::specs::SectorLaws::data_missing, crate::specs::FillLaws::start_whole))]
+#[tactic(auto, using(crate::proofs::SectorLaws::sector_missing, crate::proofs::SectorLaws::data_starts, crate::proofs::SectorLaws::data_missing, crate::proofs::FillLaws::start_whole))]
 pub fn sector_data<'a>(format: u32, image: &'a [u8], lsn: Lsn) -> &'a [u8]
     ensures bytes { result.now ≡ sector_data format image.now lsn.0 }
     ensures placed { result.ref_ptr ≡ start_at image.entry.ref_ptr (data_start format (length image.now) lsn.0) }

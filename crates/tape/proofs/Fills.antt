@@ -6,9 +6,9 @@ use mathlib.Core.Path.{◌≡◌, refl, sym, ap, ap₂, ◌∙◌}
 use mathlib.Core.List.{List, ◌++◌}
 use lib.ListN.{length, take, drop, length-append}
 use Rattle.sectors.specs.Fill.{part, fill, copy_into}
-use Rattle.sectors.specs.FillLaws.{slice_part, part_length, part_all, put_fill, length_fill, part_filled, part_before, part_after, fill_more}
-use Rattle.sectors.specs.CopyLaws.{copy_whole, copy_over}
-use Rattle.tape.specs.BlockLaws.{part_add, part_three}
+use Rattle.sectors.proofs.FillLaws.{slice_part, part_length, part_all, put_fill, length_fill, part_filled, part_before, part_after, fill_more}
+use Rattle.sectors.proofs.CopyLaws.{copy_whole, copy_over}
+use Rattle.tape.proofs.BlockLaws.{part_add, part_three}
 
 -- what a copy from a place to a place leaves
 pub copied : (at place size : ℕ) (from to last : List ℕ) → at + size ≤ length from → place + size ≤ length to

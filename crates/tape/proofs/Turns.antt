@@ -9,13 +9,13 @@ use borrow.Author.Tests.{eq-eqb, ne_eqb}
 use lib.ListN.{length, drop, length-append, length-drop}
 use Rattle.sectors.specs.Audit.{header_format}
 use Rattle.sectors.specs.Fill.{part, fill}
-use Rattle.sectors.specs.FillLaws.{fill_none}
+use Rattle.sectors.proofs.FillLaws.{fill_none}
 use Rattle.sectors.specs.Format.{sector_size}
 use Rattle.sectors.specs.Sector.{sector_count}
 use Rattle.tape.specs.Store.{head_size, tail_size, tail_offset, raw_size, sectors_in, blocks, piece_of, gathered, piece_from, sector_from, scattered, unequal_lengths, lengths_refusal, gather_into, scatter_into}
 use Rattle.tape.specs.Steps.{piece_copied, sector_copied, image_copied}
-use Rattle.tape.specs.BlockLaws.{part_end, blocks_length}
-use Rattle.tape.specs.StoreLaws.{whole_sectors, piece_length, pieces_length, from_length, sector_length, sectors_length, heads_length, both_length, all_length, all_first}
+use Rattle.tape.proofs.BlockLaws.{part_end, blocks_length}
+use Rattle.tape.proofs.StoreLaws.{whole_sectors, piece_length, pieces_length, from_length, sector_length, sectors_length, heads_length, both_length, all_length, all_first}
 use Rattle.tape.proofs.Fills.{three_more, fill_next, fill_over}
 
 -- ---- the first k sectors

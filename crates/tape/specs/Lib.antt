@@ -1,4 +1,2 @@
 pub mod Store
 pub mod Steps
-pub mod BlockLaws
-pub mod StoreLaws

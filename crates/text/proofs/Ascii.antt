@@ -8,10 +8,10 @@ use borrow.Author.Tests.{ltb-true}
 use lib.Dec.{ltb}
 use lib.ListN.{length, get_or, take, length-append}
 use Rattle.text.specs.Utf8.{utf8, blanked, encoded}
-use Rattle.text.specs.Utf8Laws.{utf8_one, blanked_below}
+use Rattle.text.proofs.Utf8Laws.{utf8_one, blanked_below}
 use Rattle.text.specs.While.{take_while}
 use Rattle.text.specs.String.{nonzero, until_zero}
-use Rattle.text.specs.StringLaws.{eq_nonzero}
+use Rattle.text.proofs.StringLaws.{eq_nonzero}
 use Rattle.text.specs.Ascii.{is_ascii, is_stored_ascii}
 use Rattle.text.proofs.Writing.{take_next}
 

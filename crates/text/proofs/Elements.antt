@@ -5,9 +5,9 @@ use Prim.Native.Nat.{ℕ, ◌+◌, ◌≤◌, ◌<◌}
 use lib.ListN.{length, drop}
 use Rattle.text.specs.Mapping.{singles_of, pairs_of, doubles_of, Rising}
 use Rattle.text.specs.Parts.{MappingAt}
-use Rattle.text.specs.MappedLaws.{rising_singles, rising_pairs}
+use Rattle.text.proofs.MappedLaws.{rising_singles, rising_pairs}
 use Rattle.text.specs.Element.{element_of, HasPoints}
-use Rattle.text.specs.ElementLaws.{element_points, size_step}
+use Rattle.text.proofs.ElementLaws.{element_points, size_step}
 use Rattle.text.specs.declared.element.Element.{Element}
 use Rattle.text.specs.declared.mapping.Parts.{Parts}
 

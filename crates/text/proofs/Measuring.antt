@@ -9,7 +9,7 @@ use lib.Dec.{leb}
 use lib.ListN.{length, drop, length-append}
 use Rattle.text.specs.Mapping.{singles_of, pairs_of, doubles_of}
 use Rattle.text.specs.Element.{element_of, value_text, mapped_text}
-use Rattle.text.specs.ElementLaws.{size_step, text_step, text_end}
+use Rattle.text.proofs.ElementLaws.{size_step, text_step, text_end}
 use Rattle.text.specs.declared.element.Element.{Element}
 
 -- the bytes that the room still has, and those of the text that are still to come

@@ -35,7 +35,7 @@ fn is_reserved(key: u32) -> bool
 }
 
 // The value of a byte by itself. Where every byte up to it has one, it stands at the byte's own place.
-#[tactic(auto, using(crate::specs::MappedLaws::value_there, crate::specs::MappedLaws::value_none))]
+#[tactic(auto, using(crate::proofs::MappedLaws::value_there, crate::proofs::MappedLaws::value_none))]
 fn single_value(singles: &[u32], byte: u8) -> u32
     requires { Rising singles.now }
     ensures { result ≡ value_in singles.now byte }

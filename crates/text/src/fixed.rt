@@ -19,7 +19,7 @@ pub struct FixedText {
 }
 
 // The bytes of a field up to the first zero byte, as a part of the field; of a longer field the first 16 count.
-#[tactic(auto, using(crate::specs::StringLaws::until_taken, sectors::specs::FillLaws::take_cut), unfolding(crate::specs::Fixed::field_text))]
+#[tactic(auto, using(crate::proofs::StringLaws::until_taken, sectors::proofs::FillLaws::take_cut), unfolding(crate::specs::Fixed::field_text))]
 fn field_text<'a>(field: &'a [u8]) -> &'a [u8]
     ensures { result.now ≡ field_text field.now }
 {
@@ -51,7 +51,7 @@ fn fixed_of(text: &[u8]) -> FixedText
 }
 
 // The text of a field as it is stored.
-#[tactic(auto, using(crate::specs::FixedLaws::field_text_short), unfolding(crate::specs::Fixed::fixed_bytes_of))]
+#[tactic(auto, using(crate::proofs::FixedLaws::field_text_short), unfolding(crate::specs::Fixed::fixed_bytes_of))]
 pub fn fixed_bytes(field: &[u8]) -> FixedText
     ensures { result ≡ fixed_bytes_of field.now }
 {
@@ -59,7 +59,7 @@ pub fn fixed_bytes(field: &[u8]) -> FixedText
 }
 
 // The text of a field, trimmed at both ends.
-#[tactic(auto, using(crate::specs::FixedLaws::trimmed_short), unfolding(crate::specs::Fixed::fixed_text_of))]
+#[tactic(auto, using(crate::proofs::FixedLaws::trimmed_short), unfolding(crate::specs::Fixed::fixed_text_of))]
 pub fn fixed_text(field: &[u8]) -> FixedText
     ensures { result ≡ fixed_text_of field.now }
 {

@@ -4,15 +4,15 @@ use Rattle.std.proofs.Math.ListN.{length-map}
 use Rattle.std.proofs.Math.Nat.{zero-add}
 use Rattle.std.proofs.Math.Seq.{sets}
 use Rattle.sectors.specs.Fill.{fill}
-use Rattle.sectors.specs.FillLaws.{sets_fill}
-use Rattle.area.specs.TestLaws.{or_right}
+use Rattle.sectors.proofs.FillLaws.{sets_fill}
+use Rattle.area.proofs.TestLaws.{or_right}
 use Rattle.area.specs.Lent.{counted}
-use Rattle.area.specs.LentLaws.{counted_all}
+use Rattle.area.proofs.LentLaws.{counted_all}
 use Rattle.area.specs.Limits.{max_tracks, table_bytes}
 use Rattle.area.specs.Warning.{word_of}
 use Rattle.area.specs.Table.{head_of, head_warnings}
-use Rattle.area.specs.TableLaws.{head_warnings_few}
-use Rattle.area.specs.LoneLaws.{lone_bytes}
+use Rattle.area.proofs.TableLaws.{head_warnings_few}
+use Rattle.area.proofs.LoneLaws.{lone_bytes}
 use Rattle.area.specs.Lone.{is_odd_table, table_words, is_short, lone_sectors}
 use Rattle.area.specs.Plan.{lone_head, planned, plan_of, plan_words}
 use Rattle.area.specs.declared.lone.Plan.{Plan}

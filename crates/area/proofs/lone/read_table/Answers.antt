@@ -1,5 +1,5 @@
 -- `area::lone::read_table` meets its contract: what the three callees ensure is joined by the law `lone_read`. Assumes nothing.
-use Rattle.area.specs.LoneLaws.{lone_read}
+use Rattle.area.proofs.LoneLaws.{lone_read}
 use Rattle.area.proofs.lone.read_table.Goals as goal
 
 pub returns : goal.returns

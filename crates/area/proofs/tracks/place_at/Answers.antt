@@ -2,7 +2,7 @@
 use Rattle.std.proofs.Common.{sym, arith}
 use Rattle.std.proofs.Math.ListN.{get_or-eq_default}
 use Rattle.area.specs.Track.{no_track}
-use Rattle.area.specs.TextDecodeLaws.{no_track_place}
+use Rattle.area.proofs.TextDecodeLaws.{no_track_place}
 use Rattle.area.proofs.tracks.place_at.Goals as goal
 
 pub returns : goal.returns

@@ -1,11 +1,11 @@
 -- Of a double both code points are written, one behind the other.
 use Rattle.std.proofs.Common.{◌≡◌, ℕ, ◌+◌, ◌*◌, ◌-◌, ◌≤◌, List, length, get_or, sym, ap, ◌∙◌, arith, length-append}
 use Rattle.sectors.specs.Fill.{fill}
-use Rattle.sectors.specs.FillLaws.{fill_more, length_fill}
+use Rattle.sectors.proofs.FillLaws.{fill_more, length_fill}
 use Rattle.text.specs.Utf8.{utf8, blanked}
 use Rattle.text.specs.Mapping.{double_base}
 use Rattle.text.specs.Element.{value_text}
-use Rattle.text.specs.ElementLaws.{value_two}
+use Rattle.text.proofs.ElementLaws.{value_two}
 use Rattle.text.proofs.mapped.put_value.Goals as goal
 
 module _ (doubles : List ℕ) (value at : ℕ) (page : List ℕ) (big : double_base ≤ value) (room : at + length (value_text doubles value) ≤ length page) where
