@@ -8,7 +8,7 @@ use seplogic.Ra.Ura.{Ura}
 use mir.Syntax.{Ty, Local, local, Home, Fn, erased, named}
 use mir.Val.{Val}
 use base.Logic.{SProp, ent, sep, ex, emp, id⊢, via, mono∗, mono_r, emp∗, snd∗}
-use base.Fml.{Fml, ftrue, fsep, froom, fres}
+use base.Fml.{Fml, ftrue, fsep, froom}
 use prog.Wp.{Calls, Loops, WpFn}
 use types.Logic.{Logic, sem}
 use contract.Lifetimes.{Lfts, Shares, Within, lft_at, toks}
@@ -19,12 +19,12 @@ use denote.Exit.{Last, left, yes}
 use denote.Laws.{Rel, Makes, Is, Tells, Spells, Tellss, Ises}
 use denote.Signature.{Slot, plain, shr_slice_of, mut_slice_of, types_at}
 use denote.Ref.{MutRef, mut_vals}
-use denote.Slice.{MutSlice, shr_slice_vals, mut_slice_vals, shr_slice_Tells, mut_slice_Tells, finally}
+use denote.Slice.{MutSlice, shr_slice_vals, mut_slice_vals, shr_slice_Tells, mut_slice_Tells}
 use denote.Steps.{owned}
 use denote.Triple.End.{all}
 use denote.Triple.Walked.{says, Stay, Stays, Goes, AllGo, stay_none, stay_none_slice, gave_slice, Goes-none, Goes-none_slice, Goes-gave_slice}
 use Rattle.walks.specs.Locals.{Places, Typed, tys, env, filled, deaths, enters}
-use Rattle.walks.specs.Call.{Arg, made, lent, given, given_one, rows, values, wordss, had, Lasts, Longs, tokens, alive, each_alive}
+use Rattle.walks.specs.Call.{Arg, made, lent, given, given_one, Gave, Gave_one, rows, values, wordss, had, Lasts, Longs, tokens, alive, each_alive}
 
 -- ---- the parameters
 pub data Param (n : ℕ) : Type 2 where
@@ -54,7 +54,7 @@ module _ {n : ℕ} where
   abbrev pub spell : (p : Param n) (κs : Lfts n) → ((slot p).row κs).Denot → List Val
   spell (value R vals tells silent) κs = vals
   spell (shared j ok R) κs = shr_slice_vals
-  spell (exclusive j ok R) κs = shr_slice_vals
+  spell (exclusive j ok R) κs = mut_slice_vals
 
   abbrev pub spells : (ps : List (Param n)) (κs : Lfts n) → Spells (types_at (slots ps) κs)
   spells [] κs = tt
@@ -85,15 +85,15 @@ module _ {M : Type 1} {𝓤 : Ura M} {𝓛 : Logic 𝓤} where
   kept [] ws = []
   kept (made R x vs o ∷ ps) ws = kept ps ws.1
   kept (lent R x vs ∷ ps) ws = ‵ (R.own_val x vs) ∷ kept ps ws.1
-  kept (given R κ x ∷ ps) ws = ‵ (finally R x.name ws.0) ∷ kept ps ws.1
-  kept (given_one R κ x ∷ ps) ws = ‵ (fres x.name (R.coded.code ws.0)) ∷ kept ps ws.1
+  kept (given R κ x ∷ ps) ws = ‵ (Gave R κ x ws.0) ∷ kept ps ws.1
+  kept (given_one R κ x ∷ ps) ws = ‵ (Gave_one R κ x ws.0) ∷ kept ps ws.1
 
   abbrev pub has : (ps : List (Arg 𝓛)) → Lasts ps → Fml
   has [] ws = ftrue
   has (made R x vs o ∷ ps) ws = fsep (R.own_val x vs) (has ps ws.1)
   has (lent R x vs ∷ ps) ws = fsep (R.own_val x vs) (has ps ws.1)
-  has (given R κ x ∷ ps) ws = fsep (finally R x.name ws.0) (has ps ws.1)
-  has (given_one R κ x ∷ ps) ws = fsep (fres x.name (R.coded.code ws.0)) (has ps ws.1)
+  has (given R κ x ∷ ps) ws = fsep (Gave R κ x ws.0) (has ps ws.1)
+  has (given_one R κ x ∷ ps) ws = fsep (Gave_one R κ x ws.0) (has ps ws.1)
 
   abbrev pub Fits : (ps : List (Arg 𝓛)) → Lasts ps → Type 0
   Fits [] ws = Unit {0}
@@ -119,8 +119,8 @@ module _ {M : Type 1} {𝓤 : Ura M} (𝓛 : Logic 𝓤) where
   all_kept [] ws = id⊢ 𝓤 (emp 𝓤)
   all_kept (made R x vs o ∷ ps) ws = via 𝓤 _ (emp∗ 𝓤 (S (kept ps ws.1))) (mono∗ 𝓤 o (all_kept ps ws.1))
   all_kept (lent R x vs ∷ ps) ws = via 𝓤 _ (pop 𝓛 (‵ (R.own_val x vs)) (kept ps ws.1)) (mono_r 𝓤 (sem 𝓛 (R.own_val x vs)) (all_kept ps ws.1))
-  all_kept (given R κ x ∷ ps) ws = via 𝓤 _ (pop 𝓛 (‵ (finally R x.name ws.0)) (kept ps ws.1)) (mono_r 𝓤 (sem 𝓛 (finally R x.name ws.0)) (all_kept ps ws.1))
-  all_kept (given_one R κ x ∷ ps) ws = via 𝓤 _ (pop 𝓛 (‵ (fres x.name (R.coded.code ws.0))) (kept ps ws.1)) (mono_r 𝓤 (sem 𝓛 (fres x.name (R.coded.code ws.0))) (all_kept ps ws.1))
+  all_kept (given R κ x ∷ ps) ws = via 𝓤 _ (pop 𝓛 (‵ (Gave R κ x ws.0)) (kept ps ws.1)) (mono_r 𝓤 (sem 𝓛 (Gave R κ x ws.0)) (all_kept ps ws.1))
+  all_kept (given_one R κ x ∷ ps) ws = via 𝓤 _ (pop 𝓛 (‵ (Gave_one R κ x ws.0)) (kept ps ws.1)) (mono_r 𝓤 (sem 𝓛 (Gave_one R κ x ws.0)) (all_kept ps ws.1))
 
   taken : (ps : List (Arg 𝓛)) → ent 𝓤 (sem 𝓛 (owns (rows ps) (values ps) (wordss ps))) (S (had ps))
   taken [] = id⊢ 𝓤 (emp 𝓤)

@@ -1,15 +1,16 @@
 -- The MIR of a function that hands everything on: its body is one call, with all its parameters in their order. What the call does at the values passed is what the function does there: nothing is asked of what they own.
 --     Param            a parameter, by the way in which the body hands it on
 --     handing          the locals and the body of such a function
+--     Lead             each slice that is lent again is a pointer and a count: its type alone leaves null and a function's address in the pointer's place, which cannot be followed
 --     hands_on         its theorem, by recursion over the parameters
 -- Assumes `Logic`.
 use Rattle.std.specs.Prelude.{◌≡◌, refl, ℕ, suc, true, false, ◌&&◌, List, [], ◌∷◌, T, get_or}
 use Rattle.std.proofs.Common.{sym, ap, subst, ◌∙◌}
 use seplogic.Ra.Ura.{Ura}
-use seplogic.Ra.TreeShare.{full_share}
-use mir.Syntax.{Name, Ty, ty_ref, ty_enum, ttnil, ty_int, tcons, tnil, Lifetime, erased, mut, w64, Step, deref, field, place, Opd as Operand, copy, addr_of, aggregate, Body, seq, assign, call, return, Local, local, value_local, Fn}
+use base.Fraction.{full_share}
+use mir.Syntax.{Callee, Ty, ty_ref, ty_enum, ttnil, ty_int, tcons, tnil, Lifetime, erased, mut, w64, Step, deref, field, place, Opd as Operand, copy, addr_of, aggregate, Body, seq, assign, call, return, Local, local, value_local, Fn}
 use Rattle.std.proofs.Math.Facts.{and_yes}
-use mir.Val.{Val, Vals, vunit, vbool, vint, vfloat, vptr, vstruct, vcons, vnil, has_ty, has_tys, WT}
+use mir.Val.{Val, Vals, vunit, vbool, vint, vfloat, vptr, vcode, vstruct, vcons, vnil, has_ty, has_tys, WT}
 use base.Logic.{SProp, ent, id⊢}
 use base.Fml.{ftrue, fat, froom, fdies}
 use prog.Wp.{Env, Spot, Calls, Loops, Tables, WpFn, walk, eval_opds}
@@ -73,27 +74,57 @@ abbrev past : List Param → ℕ → ℕ
 past [] t = t
 past (p ∷ ps) t = suc (past ps t)
 
-abbrev call_then_return : Name → List Param → Body
+abbrev call_then_return : Callee → List Param → Body
 call_then_return k ps = seq (call k (operands 1 (suc (past ps 0)) ps) (place 0 [])) return
 
 -- the locals and the body of a function; and of the one that hands the parameters on to k, and returns what k does, of the type ρ
 abbrev pub code_of : Fn → List Local × Body
 code_of f = (f.locals, f.body)
 
-abbrev pub handing : Ty → Name → List Param → List Local × Body
+abbrev pub handing : Ty → Callee → List Param → List Local × Body
 handing ρ k ps = (local ρ value_local ∷ params_then ps (temps ps), lend_then 1 (suc (past ps 0)) ps (call_then_return k ps))
 
 -- ---- a value of a slice's type is a pointer and a count
 abbrev slice_of : ℕ → ℕ → Val → Val
 slice_of k o u = vstruct (vcons (vptr k o) (vcons u vnil))
 
-pointer : (ℓ : Lifetime) (τ : Ty) (v : Val) → T (has_ty (ty_ref ℓ mut τ) v) → (k : ℕ) × (o : ℕ) × (v ≡ vptr k o)
-pointer ℓ τ vunit h = absurd h
-pointer ℓ τ (vbool b) h = absurd h
-pointer ℓ τ (vint w n) h = absurd h
-pointer ℓ τ (vfloat f x) h = absurd h
-pointer ℓ τ (vptr k o) h = (k, o, refl)
-pointer ℓ τ (vstruct vs) h = absurd h
+-- a pointer that can be followed;  a slice's value that begins with one
+abbrev pub leads : Val → Type 0
+leads vunit = ⊥
+leads (vbool b) = ⊥
+leads (vint w n) = ⊥
+leads (vfloat f x) = ⊥
+leads (vptr k o) = Unit {0}
+leads (vcode c) = ⊥
+leads (vstruct vs) = ⊥
+
+abbrev pub first_leads : Vals → Type 0
+first_leads vnil = ⊥
+first_leads (vcons v vs) = leads v
+
+abbrev pub slice_leads : Val → Type 0
+slice_leads vunit = ⊥
+slice_leads (vbool b) = ⊥
+slice_leads (vint w n) = ⊥
+slice_leads (vfloat f x) = ⊥
+slice_leads (vptr k o) = ⊥
+slice_leads (vcode c) = ⊥
+slice_leads (vstruct vs) = first_leads vs
+
+abbrev pub Lead : List Param → List Val → Type 0
+Lead [] vs = Unit {0}
+Lead (p ∷ ps) [] = Unit {0}
+Lead (as_is τ ∷ ps) (v ∷ vs) = Lead ps vs
+Lead (again ℓ τ σ ∷ ps) (v ∷ vs) = slice_leads v × Lead ps vs
+
+pointer : (ℓ : Lifetime) (τ : Ty) (v : Val) → T (has_ty (ty_ref ℓ mut τ) v) → leads v → (k : ℕ) × (o : ℕ) × (v ≡ vptr k o)
+pointer ℓ τ vunit h l = absurd h
+pointer ℓ τ (vbool b) h l = absurd h
+pointer ℓ τ (vint w n) h l = absurd l
+pointer ℓ τ (vfloat f x) h l = absurd h
+pointer ℓ τ (vptr k o) h l = (k, o, refl)
+pointer ℓ τ (vcode c) h l = absurd l
+pointer ℓ τ (vstruct vs) h l = absurd h
 
 two_fields : (ρ π : Ty) (vs : Vals) → T (has_tys (tcons ρ (tcons π tnil)) vs) → (v : Val) × (u : Val) × T (has_ty ρ v) × (vs ≡ vcons v (vcons u vnil))
 two_fields ρ π vnil h = absurd h
@@ -101,19 +132,20 @@ two_fields ρ π (vcons v vnil) h = absurd (and_yes (has_ty ρ v) false h).1
 two_fields ρ π (vcons v (vcons u vnil)) h = (v, u, (and_yes (has_ty ρ v) (has_ty π u && true) h).0, refl)
 two_fields ρ π (vcons v (vcons u (vcons w ws))) h = absurd (and_yes (has_ty π u) false (and_yes (has_ty ρ v) (has_ty π u && false) h).1).1
 
-slice_shape : (ℓ : Lifetime) (τ : Ty) (v : Val) → T (has_ty (slice_ty (ty_ref ℓ mut τ)) v) → (k : ℕ) × (o : ℕ) × (u : Val) × (v ≡ slice_of k o u)
-slice_shape ℓ τ vunit h = absurd h
-slice_shape ℓ τ (vbool b) h = absurd h
-slice_shape ℓ τ (vint w n) h = absurd h
-slice_shape ℓ τ (vfloat f x) h = absurd h
-slice_shape ℓ τ (vptr k o) h = absurd h
-slice_shape ℓ τ (vstruct vs) h = (at.0, at.1, two.1, ap (λ (ws : Vals). vstruct ws) two.3 ∙ ap (λ (w : Val). vstruct (vcons w (vcons two.1 vnil))) at.2)
+slice_shape : (ℓ : Lifetime) (τ : Ty) (v : Val) → T (has_ty (slice_ty (ty_ref ℓ mut τ)) v) → slice_leads v → (k : ℕ) × (o : ℕ) × (u : Val) × (v ≡ slice_of k o u)
+slice_shape ℓ τ vunit h l = absurd h
+slice_shape ℓ τ (vbool b) h l = absurd h
+slice_shape ℓ τ (vint w n) h l = absurd h
+slice_shape ℓ τ (vfloat f x) h l = absurd h
+slice_shape ℓ τ (vptr k o) h l = absurd h
+slice_shape ℓ τ (vcode c) h l = absurd h
+slice_shape ℓ τ (vstruct vs) h l = (at.0, at.1, two.1, ap (λ (ws : Vals). vstruct ws) two.3 ∙ ap (λ (w : Val). vstruct (vcons w (vcons two.1 vnil))) at.2)
   where
     two : (v : Val) × (u : Val) × T (has_ty (ty_ref ℓ mut τ) v) × (vs ≡ vcons v (vcons u vnil))
     two = two_fields (ty_ref ℓ mut τ) (ty_int w64) vs h
 
     at : (k : ℕ) × (o : ℕ) × (two.0 ≡ vptr k o)
-    at = pointer ℓ τ two.0 two.2
+    at = pointer ℓ τ two.0 two.2 (subst first_leads two.3 l)
 
 -- ---- where the locals lie: a block for each parameter, and for each temporary
 abbrev Blocks : List Param → Type 0
@@ -167,7 +199,7 @@ found (p ∷ ps) bs E = (refl, found_next (ty_of p, bs.0) (env_then ps bs.1 E) 0
 temp_found : (ps : List Param) (cs : TempBlocks ps) → TempFound (temp_env ps cs) 0 ps cs
 temp_found [] cs = tt
 temp_found (as_is τ ∷ ps) cs = temp_found ps cs
-temp_found (again ℓ τ σ ∷ ps) cs = (refl, (refl, temp_found_next _ _ 1 ps cs.1.1 (temp_found_next _ _ 0 ps cs.1.1 (temp_found ps cs.1.1))))
+temp_found (again ℓ τ σ ∷ ps) cs = (refl, (refl, temp_found_next (ptr_ty τ, cs.0) ((lent_ty τ, cs.1.0) ∷ temp_env ps cs.1.1) 1 ps cs.1.1 (temp_found_next (lent_ty τ, cs.1.0) (temp_env ps cs.1.1) 0 ps cs.1.1 (temp_found ps cs.1.1))))
 
 temp_past : (qs : List Param) (bs : Blocks qs) (E : Placed) (t : ℕ) (ps : List Param) (cs : TempBlocks ps) → TempFound E t ps cs → TempFound (env_then qs bs E) (past qs t) ps cs
 temp_past [] bs E t ps cs f = f
@@ -265,17 +297,17 @@ module _ {M : Type 1} {𝓤 : Ura M} (𝓛 : Logic 𝓤) where
   module _ (Γ : List (Item 𝓤)) (E : Env 𝓤 H) (C : Calls 𝓤 H) (Λ : Loops 𝓤 H) (rest : Body) (q : Post 𝓤 H) (ℓ : Lifetime) (τ σ : Ty) (i t b c d : ℕ)
       (at_i : get_or E i nowhere ≡ (slice_ty (ty_ref ℓ mut τ), b)) (at-t : get_or E t nowhere ≡ (ptr_ty τ, c)) (after-t : get_or E (suc t) nowhere ≡ (lent_ty τ, d)) where
     abbrev Lends : Val → Type 1
-    Lends v = T (has_ty (slice_ty (ty_ref ℓ mut τ)) v) × WT v → Sq 𝓛 (‵ (fat full_share (slice_ty (ty_ref ℓ mut τ)) b 0 v) ∷ ‵ (froom (ptr_ty τ) c 0) ∷ ‵ (fat full_share (lent_ty τ) d 0 v) ∷ Γ) (runs C Λ E rest q)
+    Lends v = slice_leads v → T (has_ty (slice_ty (ty_ref ℓ mut τ)) v) × WT v → Sq 𝓛 (‵ (fat full_share (slice_ty (ty_ref ℓ mut τ)) b 0 v) ∷ ‵ (froom (ptr_ty τ) c 0) ∷ ‵ (fat full_share (lent_ty τ) d 0 v) ∷ Γ) (runs C Λ E rest q)
         → Sq 𝓛 (‵ (fat full_share (slice_ty (ty_ref ℓ mut τ)) b 0 v) ∷ ‵ (froom (ptr_ty τ) c 0) ∷ ‵ (froom (lent_ty τ) d 0) ∷ Γ) (runs C Λ E (lend i t σ rest) q)
 
     lent_shape : (k o : ℕ) (u : Val) → Lends (slice_of k o u)
-    lent_shape k o u wt s =
+    lent_shape k o u l wt s =
         assigns ! (addr ! (at_local at_i (fld ! refl (hop ! (look_in ! 0 (sub ! 0 refl (whole !))) (stop !))))) (at_local at-t (stop !)) (init ! 1 refl (tt, tt)) $
         assigns ! (agg ! (and_then ! (load ! (at_local at-t (stop !)) (look ! 1 refl)) (and_then ! (load ! (at_local at_i (fld ! refl (stop !))) (look_in ! 0 (sub ! 1 refl (whole !)))) (no_more !)))) (at_local after-t (stop !)) (init ! 2 refl wt) $
         forget ! 1 refl $ s
 
     lent_again : (v : Val) → Lends v
-    lent_again v wt = subst Lends (sym (slice_shape ℓ τ v wt.0).3) (lent_shape _ _ _) wt
+    lent_again v l wt = subst Lends (sym (slice_shape ℓ τ v wt.0 l).3) (lent_shape (slice_shape ℓ τ v wt.0 l).0 (slice_shape ℓ τ v wt.0 l).1 (slice_shape ℓ τ v wt.0 l).2) l wt
 
   -- an operand is read
   read : {Γ : List (Item 𝓤)} (E : Env 𝓤 H) (i : ℕ) {τ : Ty} {b : ℕ} {v : Val} → get_or E i nowhere ≡ (τ, b) → (xs : List Operand) (Kt : List Val → SProp 𝓤)
@@ -286,16 +318,16 @@ module _ {M : Type 1} {𝓤 : Ura M} (𝓛 : Logic 𝓤) where
       value = load ! (at_local same (stop !)) (look ! 0 refl)
 
   module _ (E : Env 𝓤 H) where
-    all_lent : (ps : List Param) (bs : Blocks ps) (cs : TempBlocks ps) (vs : List Val) → Typed (tys_of ps) vs → (i t : ℕ) → Found E i ps bs → TempFound E t ps cs → (P : Item 𝓤) {C : Calls 𝓤 H} {Λ : Loops 𝓤 H} {rest : Body} {q : Post 𝓤 H}
+    all_lent : (ps : List Param) (bs : Blocks ps) (cs : TempBlocks ps) (vs : List Val) → Typed (tys_of ps) vs → Lead ps vs → (i t : ℕ) → Found E i ps bs → TempFound E t ps cs → (P : Item 𝓤) {C : Calls 𝓤 H} {Λ : Loops 𝓤 H} {rest : Body} {q : Post 𝓤 H}
         → Sq 𝓛 (full ps bs vs ∷ lent ps cs vs ∷ P ∷ []) (runs C Λ E rest q) → Sq 𝓛 (full ps bs vs ∷ temp_room ps cs ∷ P ∷ []) (runs C Λ E (lend_then i t ps rest) q)
-    all_lent [] bs cs [] wt i t f g P k = k
-    all_lent [] bs cs (v ∷ vs) wt i t f g P k = absurd wt
-    all_lent (p ∷ ps) bs cs [] wt i t f g P k = absurd wt
-    all_lent (as_is τ ∷ ps) bs cs (v ∷ vs) wt i t f g P k = split ! $ move ! (0 ∷ 3 ∷ []) $ join ! $ move ! (1 ∷ 2 ∷ []) $ all_lent ps bs.1 cs vs wt.1 (suc i) t f.1 g _
+    all_lent [] bs cs [] wt l i t f g P k = k
+    all_lent [] bs cs (v ∷ vs) wt l i t f g P k = absurd wt
+    all_lent (p ∷ ps) bs cs [] wt l i t f g P k = absurd wt
+    all_lent (as_is τ ∷ ps) bs cs (v ∷ vs) wt l i t f g P k = split ! $ move ! (0 ∷ 3 ∷ []) $ join ! $ move ! (1 ∷ 2 ∷ []) $ all_lent ps bs.1 cs vs wt.1 l (suc i) t f.1 g _
         (move ! (2 ∷ []) $ split ! $ move ! (0 ∷ 2 ∷ []) $ join ! $ move ! (0 ∷ 2 ∷ []) $ k)
-    all_lent (again ℓ τ σ ∷ ps) bs cs (v ∷ vs) wt i t f g P k = split ! $ move ! (2 ∷ []) $ split ! $ move ! (1 ∷ []) $ split ! $ move ! (3 ∷ 2 ∷ 0 ∷ []) $ lent_again _ E _ _ _ _ ℓ τ σ i t _ _ _ f.0 g.0 g.1.0 v wt.0
+    all_lent (again ℓ τ σ ∷ ps) bs cs (v ∷ vs) wt l i t f g P k = split ! $ move ! (2 ∷ []) $ split ! $ move ! (1 ∷ []) $ split ! $ move ! (3 ∷ 2 ∷ 0 ∷ []) $ lent_again _ E _ _ _ _ ℓ τ σ i t _ _ _ f.0 g.0 g.1.0 v l.0 wt.0
         -- [the slice; room of its pointer; the slice lent; …; …; P]
-        (move ! (2 ∷ 5 ∷ []) $ join ! $ move ! (2 ∷ 0 ∷ []) $ join ! $ move ! (1 ∷ 0 ∷ []) $ join ! $ move ! (2 ∷ 1 ∷ []) $ all_lent ps bs.1 cs.1.1 vs wt.1 (suc i) (suc (suc t)) f.1 g.1.1 _
+        (move ! (2 ∷ 5 ∷ []) $ join ! $ move ! (2 ∷ 0 ∷ []) $ join ! $ move ! (1 ∷ 0 ∷ []) $ join ! $ move ! (2 ∷ 1 ∷ []) $ all_lent ps bs.1 cs.1.1 vs wt.1 l.1 (suc i) (suc (suc t)) f.1 g.1.1 _
         (move ! (2 ∷ []) $ split ! $ move ! (1 ∷ []) $ split ! $ move ! (1 ∷ []) $ split ! $ move ! (0 ∷ 5 ∷ []) $ join ! $ move ! (2 ∷ 0 ∷ []) $ join ! $ move ! (2 ∷ 3 ∷ []) $ join ! $ k))
 
     all_read : (ps : List Param) (bs : Blocks ps) (cs : TempBlocks ps) (vs : List Val) → Typed (tys_of ps) vs → (i t : ℕ) → Found E i ps bs → TempFound E t ps cs → (P : Item 𝓤) (Kt : List Val → SProp 𝓤)
@@ -312,7 +344,7 @@ module _ {M : Type 1} {𝓤 : Ura M} (𝓛 : Logic 𝓤) where
         (move ! (2 ∷ []) $ split ! $ move ! (1 ∷ []) $ split ! $ move ! (1 ∷ []) $ split ! $ move ! (0 ∷ 5 ∷ []) $ join ! $ move ! (2 ∷ 0 ∷ []) $ join ! $ move ! (2 ∷ 3 ∷ []) $ join ! $ k))
 
   -- ---- the function. What the call answers is of the type ρ
-  module _ (𝓣 : Tables 𝓤 H) (ρ : Ty) (ps : List Param) (k : Name) (vs : List Val) (wt : Typed (tys_of ps) vs) (Q : Val → SProp 𝓤) (answers : (w : Val) → ent 𝓤 (Q w) (mean 𝓛 (later (given (T (has_ty ρ w) × WT w) (raw (Q w)))))) where
+  module _ (𝓣 : Tables 𝓤 H) (ρ : Ty) (ps : List Param) (k : Callee) (vs : List Val) (wt : Typed (tys_of ps) vs) (lead : Lead ps vs) (Q : Val → SProp 𝓤) (answers : (w : Val) → ent 𝓤 (Q w) (mean 𝓛 (later (given (T (has_ty ρ w) × WT w) (raw (Q w)))))) where
     abbrev Call : Item 𝓤
     Call = raw (𝓣.C k vs Q)
 
@@ -343,4 +375,4 @@ module _ {M : Type 1} {𝓤 : Ura M} (𝓛 : Logic 𝓤) where
         -- [the call; the result's room; those that die; room for the parameters and the temporaries]
         move ! (2 ∷ 5 ∷ []) $ join ! $ move ! (2 ∷ 0 ∷ []) $ join ! $ move ! (1 ∷ 0 ∷ []) $ join ! $ move ! (2 ∷ 0 ∷ []) $ join ! $ move ! (1 ∷ 0 ∷ []) $
         params1 ! $ stored ps bs vs wt (temp_env ps cs) _ (move ! (1 ∷ []) $ split ! $ move ! (2 ∷ 0 ∷ []) $
-        all_lent (whole_env ps (ρ, r) bs cs) ps bs cs vs wt 1 (suc (past ps 0)) (all_found ps (ρ, r) bs cs) (all_temps_found ps (ρ, r) bs cs) _ (called r bs cs)))))
+        all_lent (whole_env ps (ρ, r) bs cs) ps bs cs vs wt lead 1 (suc (past ps 0)) (all_found ps (ρ, r) bs cs) (all_temps_found ps (ρ, r) bs cs) _ (called r bs cs)))))

@@ -2,13 +2,13 @@
 -- share of 'a's token, and ended after the call, when the local comes back at the value that the callee says. Assumes `Logic`.
 --     Owns h, Cell b h     what a value h owns;  the local's cell, at b
 --     at_local, halves     the reference to the local;  the shares of the two lifetimes' tokens
---     calls-lent           [Owns h; Cell b h; 'a's token] becomes [what the result owns; Owns c; Cell b c; 'a's token], with the result's relation and the contract's fact in hand, where c is the last value
+--     calls_lent           [Owns h; Cell b h; 'a's token] becomes [what the result owns; Owns c; Cell b c; 'a's token], with the result's relation and the contract's fact in hand, where c is the last value
 use Prim.Native.Nat.{ℕ, zero}
 use Rattle.std.specs.Prelude.{List, [], ◌∷◌}
 use seplogic.Ra.Ura.{Ura}
-use seplogic.Ra.TreeShare.PosShare
-use seplogic.Ra.TreeShare.{full_share}
-use mir.Syntax.{erased, Name, Place, Opd as Operand, Body as MirBody, seq, call}
+use base.Share
+use base.Fraction.{full_share}
+use mir.Syntax.{erased, Callee, Place, Opd as Operand, Body as MirBody, seq, call}
 use mir.Val.{Val, vptr}
 use base.Logic.{ent, sep}
 use base.Fml.{GName, Lft, Share, Fml, fsep, fat, flft, fdead, fres, flent}
@@ -17,7 +17,7 @@ use types.Logic.{Logic, sem}
 use contract.Lifetimes.{Lfts, Shares}
 use contract.Monad.{fact}
 use sound.WpLaws.{FmC}
-use types.Kit.{Item, ‵, raw, ◌⊛◌, some, later, Post, Goal, Soaks, Seq, runs, lands, ◌$◌, ◌∵◌, !, qed, move, use1, use2, use3, split, pick, fsplit, fjoin, fpick, fpack, await, done}
+use types.Kit.{Item, ‵, raw, ◌⊛◌, some, later, Post, Goal, Soaks, Seq, runs, lands, ◌$◌, ◌∵◌, !, qed, move, use1, use2, use3, drop, split, pick, fsplit, fjoin, fpick, fpack, await, done}
 use types.Tokens.{lft_new}
 use types.SemTy.{Body}
 use types.Run.{Opds}
@@ -45,7 +45,7 @@ at_local b δ h = record { ref_ptr = (b, zero); ghost_name = δ; now = h }
 
 -- the two halves of a share: of the loan's lifetime, and of 'a
 abbrev pub halves : Share → Shares 2
-halves q = (PosShare.right q, (PosShare.left q, tt))
+halves q = (Share.right q, (Share.left q, tt))
 
 -- what the lender keeps
 abbrev Kept : Declared → Lft → ℕ → GName → Fml
@@ -98,9 +98,10 @@ module _ {M : Type 1} {𝓤 : Ura M} (𝓛 : Logic 𝓤) (D : Declared) (L : LL.
       abbrev lent : ℕ → GName → List (Item 𝓤) → List (Item 𝓤)
       lent ν δ Γ = ‵ (flft (ν ∷ κ) qs.0) ∷ ‵ (flft κ qs.1.0) ∷ ‵ ((MutRef erased (ν ∷ κ) (row D)).own_val (at_local b δ h) (vptr b zero ∷ [])) ∷ ‵ (Kept D (ν ∷ κ) b δ) ∷ raw (Rest 𝓛 ν qs.0) ∷ Γ
 
-      pub calls_lent : {Γ : List (Item 𝓤)} {K : Type 0} {E : Env 𝓤 H} {C : Calls 𝓤 H} {Λ : Loops 𝓤 H} {post : Post 𝓤 H} {f : Name} {xs : List Operand} {d : Place} {rest : MirBody} → K → FmC 𝓤 H 𝓛.laws C
+      pub calls_lent : {Γ : List (Item 𝓤)} {K : Type 0} {E : Env 𝓤 H} {C : Calls 𝓤 H} {Λ : Loops 𝓤 H} {post : Post 𝓤 H} {f : Callee} {xs : List Operand} {d : Place} {rest : MirBody} → K → FmC 𝓤 H 𝓛.laws C
           → ((ν : ℕ) (δ : GName) → Says 𝓛 R 2 (κs ν) qs (passed ν δ) (λ r ws. fact 𝓤 (F r ws.0)) C f) → ((ν : ℕ) (δ : GName) → Opds K 𝓛 (lent ν δ Γ) E xs (vptr b zero ∷ []))
           → ((v : Val) (r : R.Denot) (c : D.D) → P r (v ∷ []) → F r c → Seq K 𝓛 (‵ (Owns D L c) ∷ ‵ (Cell D L b c) ∷ ‵ (flft κ q) ∷ ‵ (R.own_val r (v ∷ [])) ∷ Γ) (lands C Λ E d v rest post))
           → Seq K 𝓛 (‵ (Owns D L h) ∷ ‵ (Cell D L b h) ∷ ‵ (flft κ q) ∷ Γ) (runs C Λ E (seq (call f xs d) rest) post)
       calls_lent t fm says os k = lends t tt h b (λ ν δ. calls 𝓛 R P shown 2 (κs ν) qs (passed ν δ) (λ r ws. F r ws.0) _ t fm (says ν δ) (os ν δ) (λ v r ws is f _.
-          move t (1 ∷ 2 ∷ 3 ∷ 4 ∷ 5 ∷ []) $ comes_back t tt ν δ ws.0 b (k v r ws.0 is f)))
+          -- [what the result owns; the two tokens; the last value and the loan's borrow; what the lender keeps; the way back]
+          move t (3 ∷ []) $ fsplit t $ move t (1 ∷ []) $ drop t $ move t (2 ∷ 3 ∷ 0 ∷ 4 ∷ 5 ∷ []) $ comes_back t tt ν δ ws.0 b (k v r ws.0 is f)))

@@ -8,11 +8,11 @@ use Rattle.std.specs.Prelude.{◌≡◌, refl, ℕ, zero, suc, List, [], ◌∷�
 use Rattle.std.proofs.Common.{subst, sym}
 use Rattle.std.proofs.Math.Option.{Option, none, some}
 use seplogic.Ra.Ura.{Ura}
-use seplogic.Ra.TreeShare.{full_share}
+use base.Fraction.{full_share}
 use mir.Syntax.{Ty, Local, local, Home, Fn}
 use mir.Val.{Val, has_ty, WT}
 use base.Logic.{SProp, ent, sep, id⊢, via, comm∗, mono_r, assoc∗, assoc'}
-use base.Fml.{Fml, ftrue, ffalse, feq, flt, fsep, fand, for, fwand, fex, fall, fupd, fat, froom, fdies, flft, fdead, fobs, fauth, fres, fbor, fobor, flent, fshr_bor}
+use base.Fml.{Fml, ftrue, ffalse, feq, flt, fsep, fand, for, fwand, fex, fall, fupd, fat, froom, fleft, fdies, flft, fdead, fobs, fauth, fres, fown, fbor, fobor, flent, fshr_bor, fhide, finv, fnamed, ftok, fkid, fme, fsent}
 use prog.Wp.{Env, Calls, Loops, WpFn}
 use types.Logic.{Logic}
 use types.Kit.{Item, ‵, raw, ◌⊛◌, some as one, given, later, ⋆, mean, push, pop, ++⊢, ⊢++, Goal, runs, at_ret, allocs, passes, frees, params', Sq, Step, step, ◌$◌, ◌∵◌, !, qed, by, move, split, join, use1}
@@ -160,6 +160,15 @@ held (fbor κ P) = none
 held (fobor κ q P) = none
 held (flent κ P) = none
 held (fshr_bor κ F) = none
+held (fhide P) = none
+held (fleft q τ τs b o) = none
+held (fown R γ x) = none
+held (finv P) = none
+held (fnamed k P) = none
+held (ftok E) = none
+held (fkid h a) = none
+held (fme h) = none
+held (fsent h) = none
 
 abbrev value : {M : Type 1} {𝓤 : Ura M} → Item 𝓤 → Option Val
 value (‵ P) = held P

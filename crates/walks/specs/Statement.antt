@@ -1,10 +1,10 @@
 -- Between a walk and a function's contract and statement.
---     are-known        on entry the arguments are to their machine values as their types say
---     over-one-call    a walk that rests on one callee's contract gives the generated statement
+--     are_known        on entry the arguments are to their machine values as their types say
+--     over_one_call    a walk that rests on one callee's contract gives the generated statement
 -- The first assumes `Logic`.
 use Rattle.std.specs.Prelude.{◌≡◌, List, [], ◌∷◌}
 use seplogic.Ra.Ura.{Ura}
-use mir.Syntax.{Name, Fn}
+use mir.Syntax.{Callee, Fn}
 use base.Logic.{ent, guard_i}
 use prog.Wp.{Tables, WpFn, Closed}
 use prog.Model.{Model}
@@ -46,7 +46,7 @@ module _ {M : Type 1} {𝓤 : Ura M} (𝓛 : Logic 𝓤) (S : Signature) (c : Sp
 module _ {M : Type 1} {𝓤 : Ura M} (𝓛 : Logic 𝓤) (𝓜 : Model 𝓤 𝓛.H) (𝓡 : Running 𝓤 𝓛.H 𝓜) (S : Signature) (c : Spec 𝓤 S) (S' : Signature) (c' : Spec 𝓤 S') where
   open 𝓛 use {H}
 
-  pub over_one_call : (γ : Env) (k : Name) (f : Fn) → Closed 𝓤 H (tables 𝓤 H 𝓜 𝓡 γ).C (tables 𝓤 H 𝓜 𝓡 γ).Λ k f → (g : Name) (r : Routine) → γ g ≡ r → Meets 𝓛 S' (𝓡.run r) c'
+  pub over_one_call : (γ : Env) (k : Callee) (f : Fn) → Closed 𝓤 H (tables 𝓤 H 𝓜 𝓡 γ).C (tables 𝓤 H 𝓜 𝓡 γ).Λ k f → (g : Callee) (r : Routine) → γ g ≡ r → Meets 𝓛 S' (𝓡.run r) c'
       → ((𝓣 : Tables 𝓤 H) → Meets 𝓛 S' (𝓣.C g) c' → Meets 𝓛 S (WpFn 𝓤 H 𝓣.C 𝓣.Λ f) c) → Meets 𝓛 S ((tables 𝓤 H 𝓜 𝓡 γ).C k) c
   unfolding tables_of
   over_one_call γ k f closed g r is met walk =

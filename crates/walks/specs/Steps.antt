@@ -1,19 +1,19 @@
 -- Statements of MIR in a walk, each with the positions in the context of the cells that it reads and writes; a `refl` shows that the cell is there.
 --     reads n, part n k        the operand is the local whose cell is entry n;  or field k of it
---     and-reads                the same, in front of other operands
+--     and_reads                the same, in front of other operands
 --     reborrows n m p          `&mut *x` or `&*x` of a slice in entry n: its reference goes to the room m, the slice made of it to the room p
---     lands-at n, lands_as n   a call's result goes to the room n;  and is known there by another value
+--     lands_at n, lands_as n   a call's result goes to the room n;  and is known there by another value
 --     becomes n f              the value `f x` in entry n, as `f y`, where x is y
 --     resizes n                the slice in entry n, as a slice of another length, which is the same
 --     repoints n               the pointer in entry n, at another offset, which is the same
---     copied n                 a copy of what the `&[T]` in entry n owns, in front
---     slice-typed              the value of a slice is of its type
+--     copied n                 a copy of what the `&[T]` in entry n owns, in front, by T's laws of sharing (`RowLaws`)
+--     slice_typed              the value of a slice is of its type
 -- Assumes `Logic`.
 use Rattle.std.specs.Prelude.{◌≡◌, refl, ℕ, zero, ◌+◌, ◌<◌, ◌^◌, List, [], ◌∷◌, T}
 use Rattle.std.proofs.Common.{sym, subst}
 use Rattle.std.proofs.Math.Option.{some}
 use seplogic.Ra.Ura.{Ura}
-use seplogic.Ra.TreeShare.{full_share}
+use base.Fraction.{full_share}
 use mir.Syntax.{Ty, Sym, Tys, ty_struct, w64, erased, deref, field, place, Opd as Operand, copy, addr_of, aggregate, Body, seq, assign}
 use mir.Val.{Val, Vals, vint, vptr, vstruct, WT, has_ty}
 use mir.Fields.{get_v}
@@ -26,6 +26,7 @@ use types.Kit.{Item, ‵, ⋆, mean, nth, del, put, pull, unpull, push, Post, Go
 use types.Run.{Walks, Opd, Opds, look, init, stop, hop, fld, from, load, addr, and_then, no_more, assigns, land}
 use types.Part.{Part, whole, sub, look_in, agg}
 use Rattle.std.specs.Borrow.{RattleType, Bor}
+use denote.RattleType.{RowLaws}
 use denote.Slice.{slice_ty, slice_val, ShrSlice, shr_slice_vals, shr_slice_copy}
 
 pub slice_typed : {n : ℕ} → n < 2 ^ 64 → Unit {0} × (Unit {0} × (WT (vint w64 n) × Unit {0}))
@@ -72,12 +73,12 @@ module _ {M : Type 1} {𝓤 : Ura M} {𝓛 : Logic 𝓤} {K : Type 0} {Γ : List
     pub repoints : K → (n : ℕ) {q : Share} {τ : Ty} {b o a k m : ℕ} → k ≡ m → nth 𝓛 n Γ ≡ ‵ (fat q τ b o (vptr a k)) → Step K 𝓛 (put 𝓛 n (‵ (fat q τ b o (vptr a m))) Γ) G Γ G
     repoints t n {a = a} e at_n = becomes t n (vptr a) e at_n
 
-    pub copied : K → (n : ℕ) (R : RattleType) (κ : Lft) (x : Bor (List R.Denot)) → nth 𝓛 n Γ ≡ ‵ ((ShrSlice erased κ R).own_val x (shr_slice_vals x)) → Step K 𝓛 (‵ ((ShrSlice erased κ R).own_val x (shr_slice_vals x)) ∷ Γ) G Γ G
-    copied t n R κ x e =
+    pub copied : K → (n : ℕ) (R : RattleType) → RowLaws R → (κ : Lft) (x : Bor (List R.Denot)) → nth 𝓛 n Γ ≡ ‵ ((ShrSlice erased κ R).own_val x (shr_slice_vals x)) → Step K 𝓛 (‵ ((ShrSlice erased κ R).own_val x (shr_slice_vals x)) ∷ Γ) G Γ G
+    copied t n R laws κ x e =
         let Copy : SProp 𝓤 = sem 𝓛 ((ShrSlice erased κ R).own_val x (shr_slice_vals x)) in
         let Own : SProp 𝓤 = mean 𝓛 (nth 𝓛 n Γ) in
         let Rest : SProp 𝓤 = ⋆ 𝓛 (del 𝓛 n Γ) in
-        let twice : ent 𝓤 Own (sep 𝓤 Copy Own) = subst (λ (i : Item 𝓤). ent 𝓤 (mean 𝓛 i) (sep 𝓤 Copy (mean 𝓛 i))) (sym e) ((shr_slice_copy 𝓛 erased κ R).twice x (shr_slice_vals x)) in
+        let twice : ent 𝓤 Own (sep 𝓤 Copy Own) = subst (λ (i : Item 𝓤). ent 𝓤 (mean 𝓛 i) (sep 𝓤 Copy (mean 𝓛 i))) (sym e) ((shr_slice_copy 𝓛 erased κ R laws).twice x (shr_slice_vals x)) in
         step (λ s. record {
           prf = via 𝓤 (sep 𝓤 Own Rest) (pull 𝓛 n Γ) (via 𝓤 (sep 𝓤 (sep 𝓤 Copy Own) Rest) (mono_l 𝓤 Rest twice) (via 𝓤 (sep 𝓤 Copy (sep 𝓤 Own Rest)) (assoc∗ 𝓤 Copy Own Rest)
               (via 𝓤 (sep 𝓤 Copy (⋆ 𝓛 Γ)) (mono_r 𝓤 Copy (unpull 𝓛 n Γ)) (via 𝓤 _ (push 𝓛 (‵ ((ShrSlice erased κ R).own_val x (shr_slice_vals x))) Γ) s.prf))));

@@ -2,7 +2,7 @@
 pub use Rattle.std.specs.Prelude.{Bool, true, false, ◌≡◌, refl, List, [], ◌∷◌, ℕ, ◌<◌, ◌^◌, ltb, length, get_or}
 pub use Rattle.std.proofs.Common.{sym, ◌∙◌, ap, subst, lit<, ltb→lt, nltb→le}
 pub use seplogic.Ra.Ura.{Ura}
-pub use seplogic.Ra.TreeShare.{full_share}
+pub use base.Fraction.{full_share}
 pub use mir.Syntax.{Ty, Sym, named, erased, imm, mut, w8, w32, w64, ty_int, ty_ref, ty_bool, ty_ptr, ty_unit, ty_struct, tcons, tnil}
 pub use mir.Val.{Val, vunit, vbool, vint, vstruct, vcons, vnil}
 pub use base.Logic.{SProp, ent, emp, via, fst∗}
@@ -11,10 +11,11 @@ pub use prog.Memory.{Memory}
 pub use prog.Routine.{Routine}
 pub use prog.Wp.{Heap, Out, Wp, WpFn, Tables, after_block, after_seq, at_return}
 pub use ghost.Atoms.{Atoms}
+pub use types.Logic.{Logic}
 pub use contract.Lifetimes.{Lfts, Shares}
 pub use contract.Monad.{Fun}
-pub use contract.Running.{given_of, tables}
-pub use types.Kit.{Given, Sq, ‵, runs, at_ret, any_q, ◌$◌, !, by, move, drop, rewrite}
+pub use contract.Running.{tables}
+pub use types.Kit.{Sq, ‵, runs, at_ret, any_q, ◌$◌, !, by, move, drop, rewrite}
 pub use types.Tokens.{lft_new, lft_end}
 pub use types.Run.{look, look_raw, lit, unit_lit, stop, hop, from, load, bin, un, of_opd, and_then, no_more, assigns, assigns_last, init, store, store_raw, first, branches, blocks, loops, stays, leaves_loop, again, Below, forget, skips, exec, returns, returns_within}
 pub use sound.WpLaws.{WpFn-mono, FmC, fm_of}
