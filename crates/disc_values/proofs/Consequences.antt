@@ -8,19 +8,19 @@ use prog.Routine.{Routine}
 use types.Logic.{Logic}
 use contract.Lifetimes.{Lfts}
 use contract.Monad.{Fun, fact}
-use Rattle.area.specs.Lent.{Lent}
+use Rattle.area.specs.Lent.{Shown, Lent}
 use Rattle.area.specs.declared.track.Track.{Track}
 use Rattle.disc.specs.Calls.{Call}
 use Rattle.disc.specs.Capping.{TracksCapped}
-use Rattle.disc.proofs.CappingCalls.{call_capped}
-use Rattle.disc.proofs.Demand3Calls.{Demanded, demanded}
+use Rattle.disc.specs.CappingCalls.{call_capped}
+use Rattle.disc.specs.Demand3Calls.{Demanded, demanded}
 use Rattle.disc_values.specs.declared.reading.Reading.{Reading}
 use Rattle.disc_values.specs.contracts.reading.read_disc_by_value as read
 
 -- the arguments of a call, and what it returns: the list of tracks is of both
 pub record ByValue : Type 0 where
   pub format : ℕ
-  pub image : Lent ℕ
+  pub image : Shown ℕ
   pub work : Lent ℕ
   pub tracks : List Track
   pub words : Lent ℕ

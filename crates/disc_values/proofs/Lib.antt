@@ -1,3 +1,1 @@
 pub mod Consequences
-pub mod LocalArray
-pub mod TrackList

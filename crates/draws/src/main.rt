@@ -1,13 +1,14 @@
 // The items of the table on standard input, drawn from a cursor: those of each track, the end, and the end again.
 #![tactic(auto)]
 
-ghost use Rattle.std.specs.Prelude.{◌≡◌};
+ghost use Rattle.std.specs.Prelude.{◌≡◌, IfOk};
 
 use area::cursor::{count_items, draw, text_cursor};
 use area::table::table_head;
-use libc::{STDIN_FILENO, STDOUT_FILENO};
 use sectors::number::{be16_at, byte_at};
 use sectors::sector::Lsn;
+use std::io;
+use std::io::Read;
 
 // Bytes and sectors of the table.
 const TABLE_BYTES: usize = 10240;
@@ -15,32 +16,36 @@ const TABLE_BYTES: usize = 10240;
 const TABLE_SECTORS: u16 = 5;
 
 // Writes what a draw answered: an item's type byte and string, or the end. Whether it was an item.
-fn print_item(found: bool, kind: u8, text: &[u8]) -> bool
-    ensures { result ≡ found }
+fn print_item(rt: &impl Print, found: bool, kind: u8, text: &[u8]) -> io::Result<bool>
+    ensures { IfOk result (λ r. r ≡ found) }
 {
     if !found {
-        io::write_all(STDOUT_FILENO, b"end\n");
-        return found;
+        println!(rt; "end")?;
+        return Ok(found);
     }
-    io::write_all(STDOUT_FILENO, b"item ");
-    io::print_decimal(STDOUT_FILENO, kind as u64);
-    io::write_all(STDOUT_FILENO, b" ");
-    io::write_all(STDOUT_FILENO, text);
-    io::write_all(STDOUT_FILENO, b"\n");
-    found
+    print!(rt; "item {kind} ")?;
+    rt.write_all(text)?;
+    println!(rt; "")?;
+    Ok(found)
 }
 
 // Draws from one cursor, once and so many times more, and writes each answer.
-fn print_draws(table: &[u8], next: usize, left: usize, more: usize) -> usize
-    ensures { result ≡ more }
+fn print_draws(
+    rt: &impl Print,
+    table: &[u8],
+    next: usize,
+    left: usize,
+    more: usize,
+) -> io::Result<usize>
+    ensures { IfOk result (λ r. r ≡ more) }
 {
     let mut cursor = text_cursor(table, next, left);
     let mut n: usize = 0;
     loop {
         let item = draw(&mut cursor);
-        print_item(item.found, item.kind, item.text);
+        print_item(rt, item.found, item.kind, item.text)?;
         if n == more {
-            return n;
+            return Ok(n);
         }
         n = n + 1;
     }
@@ -58,28 +63,41 @@ fn text_at(table: &[u8], i: u8) -> u32 {
 }
 
 // The number of items of a track's text, these items, and two draws more.
-fn print_text(table: &[u8], i: u8) {
+fn print_text(rt: &impl Print, table: &[u8], i: u8) -> io::Result<()> {
     let at = text_at(table, i) as usize;
     let left = byte_at(table, at) as usize;
     let count = count_items(table, at + 4, left);
-    io::write_all(STDOUT_FILENO, b"text ");
-    io::print_decimal(STDOUT_FILENO, count as u64);
-    io::write_all(STDOUT_FILENO, b"\n");
+    println!(rt; "text {count}")?;
     if count < 256 {
-        print_draws(table, at + 4, left, count + 1);
+        print_draws(rt, table, at + 4, left, count + 1)?;
     }
+    Ok(())
+}
+
+// Reads until a buffer is full or the input ends.
+fn read_full(rt: &impl Input, buf: &mut [u8]) -> io::Result<()> {
+    let mut reader = rt.reader();
+    let mut at = 0;
+    while at < buf.len() {
+        let n = reader.read(&mut buf[at..])?;
+        if n == 0 {
+            break;
+        }
+        at += n;
+    }
+    Ok(())
 }
 
 // The table's tracks are eight.
-fn main() {
+fn main(rt: HostRuntime) -> io::Result<()> {
     let mut table = [0u8; TABLE_BYTES];
-    io::read_full(STDIN_FILENO, &mut table);
-    print_text(&table, 0);
-    print_text(&table, 1);
-    print_text(&table, 2);
-    print_text(&table, 3);
-    print_text(&table, 4);
-    print_text(&table, 5);
-    print_text(&table, 6);
-    print_text(&table, 7);
+    read_full(&rt, &mut table)?;
+    print_text(&rt, &table, 0)?;
+    print_text(&rt, &table, 1)?;
+    print_text(&rt, &table, 2)?;
+    print_text(&rt, &table, 3)?;
+    print_text(&rt, &table, 4)?;
+    print_text(&rt, &table, 5)?;
+    print_text(&rt, &table, 6)?;
+    print_text(&rt, &table, 7)
 }

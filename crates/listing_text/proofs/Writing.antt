@@ -1,11 +1,11 @@
 -- What is written into a page, piece behind piece, is one text. Assumes nothing.
 use mathlib.Core.Path.{◌≡◌, refl, sym, ap, ◌∙◌}
-use mathlib.Core.List.{List, [], ◌++◌, map-id}
+use mathlib.Core.List.{List, [], ◌∷◌, ◌++◌, map-id}
 use Prim.Native.Nat.{ℕ}
-use lib.ListN.{length}
+use lib.ListN.{length, set}
 use lib.Seq.{sets, length-sets}
 use Rattle.area.specs.Lent.{counted}
-use Rattle.area.proofs.LentLaws.{counted_none, counted_then, sets_counted}
+use Rattle.area.specs.LentLaws.{counted_none, counted_then, sets_counted}
 
 -- what a page holds after a text is written from a place on, and the place behind what fits of it
 abbrev pub Writes : List ℕ → ℕ → List ℕ → List ℕ → ℕ → Type 0
@@ -24,11 +24,19 @@ module _ (page : List ℕ) (at : ℕ) where
   said e w = (w.0 ∙ ap (sets page at) e, w.1 ∙ ap (counted page at) e)
 
   -- stores behind stores
-  joined : (xs ys : List ℕ) → sets (sets page at xs) (counted page at xs) ys ≡ sets page at (xs ++ ys)
+  pub joined : (xs ys : List ℕ) → sets (sets page at xs) (counted page at xs) ys ≡ sets page at (xs ++ ys)
   joined xs ys =
       (λ i. sets (sets page at (sym (map-id xs) i)) (counted page at xs) (sym (map-id ys) i))
       ∙ sets_counted (λ (x : ℕ). x) page at xs ys
       ∙ ap (sets page at) (map-id (xs ++ ys))
+
+  -- one more
+  pub joined_one : (xs : List ℕ) (x : ℕ) → set (sets page at xs) (counted page at xs) x ≡ sets page at (xs ++ (x ∷ []))
+  joined_one xs x = joined xs (x ∷ [])
+
+  -- their count
+  pub counted_joined : (xs ys : List ℕ) → counted (sets page at xs) (counted page at xs) ys ≡ counted page at (xs ++ ys)
+  counted_joined xs ys = counted_then page (sets page at xs) at xs ys (length-sets page at xs)
 
   -- a text behind a text
   pub behind : (xs ys : List ℕ) {middle last : List ℕ} {m end : ℕ} → Writes page at xs middle m → Writes middle m ys last end
@@ -37,3 +45,6 @@ module _ (page : List ℕ) (at : ℕ) where
     second.0 ∙ (λ i. sets (first.0 i) (first.1 i) ys) ∙ joined xs ys,
     second.1 ∙ ap (λ (n : ℕ). counted middle n ys) first.1 ∙ counted_then page middle at xs ys (length_kept xs first),
   )
+
+-- these three, of what is written behind other writing
+pub ruleset joins = (joined, joined_one, counted_joined)

@@ -21,6 +21,7 @@ pub(crate) struct Written {
 }
 
 // Writes the line of a locale.
+#[tactic(auto, unfolding(crate::specs::Listing::locale_line))]
 fn put_locale(page: &mut [u8], at: usize, locale: Locale) -> usize
     ensures written { page.new ≡ sets page.old at (locale_line locale) }
     ensures counted { result ≡ counted page.old at (locale_line locale) }
@@ -56,6 +57,7 @@ pub(crate) fn put_locales(
 }
 
 // Writes the line of a track.
+#[tactic(auto, unfolding(crate::specs::Listing::track_line))]
 fn put_track(page: &mut [u8], at: usize, track: Track) -> usize
     ensures written { page.new ≡ sets page.old at (track_line track) }
     ensures counted { result ≡ counted page.old at (track_line track) }
@@ -107,6 +109,7 @@ pub(crate) fn put_tracks(
 }
 
 // Writes the line of the warning that a word stands for.
+#[tactic(auto, unfolding(crate::specs::Listing::warning_line, crate::specs::Listing::warning_of))]
 fn put_warning(page: &mut [u8], at: usize, word: u32) -> usize
     ensures written { page.new ≡ sets page.old at (warning_line (warning_of word)) }
     ensures counted { result ≡ counted page.old at (warning_line (warning_of word)) }

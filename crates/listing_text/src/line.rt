@@ -16,6 +16,7 @@ fn put_next(page: &mut [u8], at: usize, n: usize) -> usize
 }
 
 // Writes a line of a word and a number.
+#[tactic(auto, using(crate::proofs::Writing::joins), unfolding(crate::specs::Line::word_line))]
 pub(crate) fn put_word_line(page: &mut [u8], at: usize, word: &[u8], n: usize) -> usize
     ensures written { page.new ≡ sets page.old at (word_line word.now n) }
     ensures counted { result ≡ counted page.old at (word_line word.now n) }
@@ -26,6 +27,7 @@ pub(crate) fn put_word_line(page: &mut [u8], at: usize, word: &[u8], n: usize) -
 }
 
 // Writes a line of three fields.
+#[tactic(auto, using(crate::proofs::Writing::joins, crate::specs::LineLaws::line_of_three))]
 pub(crate) fn put_three(page: &mut [u8], at: usize, a: usize, b: usize, c: usize) -> usize
     ensures written { page.new ≡ sets page.old at (line_of (a ∷ b ∷ c ∷ [])) }
     ensures counted { result ≡ counted page.old at (line_of (a ∷ b ∷ c ∷ [])) }
@@ -37,6 +39,7 @@ pub(crate) fn put_three(page: &mut [u8], at: usize, a: usize, b: usize, c: usize
 }
 
 // Writes a line of five fields.
+#[tactic(auto, using(crate::proofs::Writing::joins, crate::specs::LineLaws::line_of_five))]
 pub(crate) fn put_five(
     page: &mut [u8],
     at: usize,

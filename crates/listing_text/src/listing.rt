@@ -23,6 +23,7 @@ pub const MAX_LISTED: usize = 65536;
 pub const LISTING_PAGE: usize = 32768;
 
 // Writes the line of a refusal.
+#[tactic(auto, unfolding(crate::specs::Listing::refused_line))]
 fn put_refused(page: &mut [u8], refusal: u8) -> usize
     ensures written { page.new ≡ sets page.old 0 (refused_line refusal) }
     ensures counted { result ≡ counted page.old 0 (refused_line refusal) }

@@ -5,6 +5,7 @@ ghost use Rattle.area.specs.Lent.{counted};
 ghost use Rattle.listing_text.specs.Decimal.{decimal};
 
 // Writes one byte.
+#[tactic(auto, unfolding(area::specs::Lent::counted))]
 pub(crate) fn put_byte(page: &mut [u8], at: usize, byte: u8) -> usize
     ensures written { page.new ≡ sets page.old at (byte ∷ []) }
     ensures counted { result ≡ counted page.old at (byte ∷ []) }
@@ -17,6 +18,7 @@ pub(crate) fn put_byte(page: &mut [u8], at: usize, byte: u8) -> usize
 }
 
 // Writes bytes.
+#[tactic(auto, using(crate::proofs::Writing::joins, area::specs::LentLaws::counted_none, crate::proofs::EntryLines::take_next))]
 pub(crate) fn put_bytes(page: &mut [u8], at: usize, bytes: &[u8]) -> usize
     ensures written { page.new ≡ sets page.old at bytes.now }
     ensures counted { result ≡ counted page.old at bytes.now }
@@ -31,6 +33,7 @@ pub(crate) fn put_bytes(page: &mut [u8], at: usize, bytes: &[u8]) -> usize
 }
 
 // Writes the decimal digits of a number.
+#[tactic(auto, using(crate::proofs::Writing::joins, crate::specs::DecimalLaws::decimal_digit, crate::specs::DecimalLaws::decimal_more), unfolding(crate::specs::Decimal::digit))]
 pub(crate) fn put_decimal(page: &mut [u8], at: usize, n: usize) -> usize
     ensures written { page.new ≡ sets page.old at (decimal n) }
     ensures counted { result ≡ counted page.old at (decimal n) }

@@ -39,6 +39,7 @@ pub(crate) fn put_locale_section(
 }
 
 // Writes the section of a table's tracks by its head; their warnings are written as words at a count.
+#[tactic(auto, using(crate::proofs::Writing::joins, crate::proofs::TrackTurns::length_tracks), unfolding(crate::specs::Listing::section))]
 pub(crate) fn put_track_section(
     table: &[u8],
     head: TableHead,

@@ -269,12 +269,14 @@ pub struct DrawAnswer {
     pub left: usize,
 }
 
+#[tactic(auto, unfolding(crate::specs::Answers::flag_of))]
 fn flag(test: bool) -> u8
     ensures { result ≡ flag_of test }
 {
     if test { 1 } else { 0 }
 }
 
+#[tactic(auto, unfolding(crate::specs::Answers::cap_answer))]
 fn cap_answer(capped: Capped) -> CapAnswer
     ensures { result ≡ cap_answer capped }
 {
@@ -287,6 +289,7 @@ fn cap_answer(capped: Capped) -> CapAnswer
     }
 }
 
+#[tactic(auto, unfolding(crate::specs::Answers::draw_answer))]
 fn draw_answer(drawn: Drawn) -> DrawAnswer
     ensures { result ≡ draw_answer drawn }
 {

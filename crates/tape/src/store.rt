@@ -22,6 +22,7 @@ const TAIL_SIZE: usize = 4;
 const TAIL_OFFSET: usize = 2060;
 
 // Copies so many bytes from a place to a place.
+#[tactic(auto, using(crate::proofs::Fills::copied))]
 fn copy_part(from: &[u8], at: usize, to: &mut [u8], place: usize, size: usize)
     requires { (at + size ≤ length from.now) × (place + size ≤ length to.old) }
     ensures { to.new ≡ fill place (part at size from.now) to.old }
@@ -30,6 +31,7 @@ fn copy_part(from: &[u8], at: usize, to: &mut [u8], place: usize, size: usize)
 }
 
 // Copies a piece of sector k of n, its bytes from an offset on, from its place in the image to that among gathered ones, or back.
+#[tactic(auto, using(crate::specs::StoreLaws::place_inside), unfolding(crate::specs::Steps::piece_copied, crate::specs::Store::piece_from, crate::specs::Store::piece_of))]
 fn copy_piece(
     from: &[u8],
     to: &mut [u8],
@@ -52,6 +54,7 @@ fn copy_piece(
 }
 
 // Copies sector k of n, forth or back: its head, its data and its tail.
+#[tactic(auto, unfolding(crate::specs::Steps::sector_copied))]
 fn copy_sector(from: &[u8], to: &mut [u8], n: usize, k: usize, back: bool)
     requires { (k < n) × ((n * raw_size ≤ length from.now) × (length to.old ≡ length from.now)) }
     ensures { to.new ≡ sector_copied back n k from.now to.old }
@@ -82,6 +85,7 @@ fn copy_image(from: &[u8], to: &mut [u8], back: bool) -> u8
 }
 
 // Writes all heads of a format 2 image, then all data, then all tails, then the rest as it came. A refusal changes nothing.
+#[tactic(auto, using(crate::specs::StoreLaws::gather_restored), unfolding(crate::specs::Steps::image_copied))]
 pub fn gather_sectors(image: &[u8], out: &mut [u8]) -> u8
     ensures refusal { result ≡ lengths_refusal (length image.now) (length out.old) }
     ensures written { out.new ≡ gather_into image.now out.old }
@@ -91,6 +95,7 @@ pub fn gather_sectors(image: &[u8], out: &mut [u8]) -> u8
 }
 
 // The way back: writes the image whose gathered bytes these are. A refusal changes nothing.
+#[tactic(auto, using(crate::specs::StoreLaws::scatter_restored), unfolding(crate::specs::Steps::image_copied))]
 pub fn scatter_sectors(bytes: &[u8], out: &mut [u8]) -> u8
     ensures refusal { result ≡ lengths_refusal (length bytes.now) (length out.old) }
     ensures written { out.new ≡ scatter_into bytes.now out.old }
