@@ -4,7 +4,7 @@ use Rattle.std.proofs.Common.{arith, inl, inr, sym, eq-eqb}
 use mathlib.Core.List.{List, Memᴰ}
 use Rattle.std.proofs.Math.Path.{subst}
 use Rattle.sectors.specs.Number.{be_at}
-use Rattle.sectors.proofs.NumberLaws.{be_below}
+use Rattle.sectors.specs.NumberLaws.{be_below}
 use Rattle.area.specs.Area.{record_of, addressed}
 use Rattle.area.specs.Chain.{chain_of}
 use Rattle.area.specs.Limits.{max_tracks, max_head_warnings, max_track_warnings}
@@ -12,7 +12,7 @@ use Rattle.area.specs.Locale.{max_locales, code_at, locale_at, no_locale, locale
 use Rattle.area.specs.Skip.{skip_of}
 use Rattle.area.specs.Table.{reads_of, tracks_of, yield_of, table_of, area_given, tracks_given, warnings_of}
 use Rattle.area.proofs.TableLaws.{tracks_most, warnings_most}
-use Rattle.area.proofs.TabulateLaws.{length_tabulate, tabulate_member, map_tabulate}
+use Rattle.area.specs.TabulateLaws.{length_tabulate, tabulate_member, map_tabulate}
 use Rattle.area.specs.Timecode.{timecode_at, frame_number}
 use Rattle.area.specs.Track.{track_of}
 use Rattle.area.proofs.TrackLaws.{track_within}

@@ -12,7 +12,7 @@ use Rattle.std.proofs.Common.{sym, ◌∙◌}
 use borrow.Author.Tests.{lt-ltb, ltb-true}
 use Rattle.std.proofs.lemmas.List.{length-map}
 use Rattle.sectors.specs.Fill.{part, fill}
-use Rattle.sectors.proofs.FillLaws.{part_filled}
+use Rattle.sectors.specs.FillLaws.{part_filled}
 use Rattle.area.specs.Area.{record_of, addressed}
 use Rattle.area.specs.Cap.{exceeds}
 use Rattle.area.specs.Capping.{stored_start_frame, stored_duration_frame, past_playtime, Stands, Capping, LoneCapped}
@@ -27,7 +27,7 @@ use Rattle.area.specs.TextPlaces.{any_unterminated}
 use Rattle.area.specs.Table.{Table, area_at, of_slot, dsd64, of_track, frequency_warnings, track_warnings, reads_of, tracks_of, tracks_warnings, yield_of, table_of, area_given, tracks_given, warnings_of, yields}
 use Rattle.area.proofs.TableLaws.{by_skip, area_of, address_tracks, address_warnings, address_playtime, tracks_count, tracks_most, warnings_most, head_skips, area_yields, addressed_track_count, addressed_playtime}
 use Rattle.area.specs.Tabulate.{tabulate}
-use Rattle.area.proofs.TabulateLaws.{tabulate_member, map_tabulate}
+use Rattle.area.specs.TabulateLaws.{tabulate_member, map_tabulate}
 use Rattle.area.specs.Timecode.{frame_number}
 use Rattle.area.specs.Track.{capped_times, times_of, track_of}
 use Rattle.area.proofs.TrackLaws.{track_within, track_warned, track_number, text_not_past}

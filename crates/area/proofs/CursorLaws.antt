@@ -8,7 +8,7 @@ use Rattle.std.specs.Borrow.{Bor}
 use Rattle.sectors.specs.Fill.{part, start_at}
 use Rattle.text.specs.String.{string_at}
 use Rattle.area.specs.Items.{Item, items_from, item_of}
-use Rattle.area.proofs.ItemLaws.{items_none, items_draw, draw_fewer, draw_stays, draw_string}
+use Rattle.area.specs.ItemLaws.{items_none, items_draw, draw_fewer, draw_stays, draw_string}
 use Rattle.area.specs.TrackText.{no_items, keep_all, items_kept}
 use Rattle.area.specs.Cursor.{draw_of, moved_on, drawn_by, moved_by}
 use Rattle.area.specs.declared.cursor.TextCursor.{TextCursor}

@@ -8,9 +8,9 @@ use native.Mathlib.Omega.{arith}
 use lib.ListN.{length, set, length-map}
 use lib.Seq.{sets, length-sets}
 use Rattle.area.specs.Lent.{counted}
-use Rattle.area.proofs.LentLaws.{sets_then, counted_none, counted_then, sets_counted}
+use Rattle.area.specs.LentLaws.{sets_then, counted_none, counted_then, sets_counted}
 use Rattle.area.specs.Tabulate.{tabulate}
-use Rattle.area.proofs.TabulateLaws.{length_tabulate, tabulate_more}
+use Rattle.area.specs.TabulateLaws.{length_tabulate, tabulate_more}
 use Rattle.area.specs.Table.{track_warnings, tracks_of, tracks_warnings, track_count, read_in, reads_in, tracks_in, warnings_in}
 use Rattle.area.specs.Warning.{word_of}
 use Rattle.area.specs.declared.table.TableHead.{TableHead}

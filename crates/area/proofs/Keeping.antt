@@ -7,11 +7,11 @@ use native.Mathlib.Omega.{arith}
 use lib.Dec.{ltb}
 use lib.ListN.{length, get_or, set}
 use borrow.Author.Tests.{eq-eqb, ne_eqb, lt-ltb, le-ltb, ltb-true, ltb-false}
-use Rattle.sectors.proofs.NumberLaws.{be_byte}
+use Rattle.sectors.specs.NumberLaws.{be_byte}
 use Rattle.text.specs.String.{string_at}
-use Rattle.area.proofs.TestLaws.{cond_same}
+use Rattle.area.specs.TestLaws.{cond_same}
 use Rattle.area.specs.Items.{Item, item_at, nonzero_at, next_item, items_from}
-use Rattle.area.proofs.ItemLaws.{nonzero_more, nonzero_found, nonzero_end, items_none, items_first}
+use Rattle.area.specs.ItemLaws.{nonzero_more, nonzero_found, nonzero_end, items_none, items_first}
 use Rattle.area.specs.TextPlaces.{placed_text}
 use Rattle.area.specs.TrackText.{track_texts, item_index, keep, keep_all}
 use Rattle.area.specs.declared.text_places.TextPlace.{TextPlace}

@@ -3,14 +3,7 @@ pub mod Keeping
 pub mod TextArray
 pub mod Walking
 pub mod Consequences
-pub mod TabulateLaws
-pub mod TestLaws
-pub mod LentLaws
-pub mod LimitLaws
-pub mod UnitLaws
-pub mod CapLaws
 pub mod SkipLaws
-pub mod ItemLaws
 pub mod TrackLaws
 pub mod WarningLaws
 pub mod BoundLaws

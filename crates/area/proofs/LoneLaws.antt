@@ -11,14 +11,14 @@ use Rattle.std.proofs.Math.ListN.{length, length-append, length-map}
 use Rattle.std.proofs.Math.Seq.{sets, length-sets}
 use borrow.Author.Tests.{ltb-false, eqb-true, not-false, eq-eqb, ne_eqb}
 use Rattle.sectors.specs.Fill.{fill}
-use Rattle.sectors.proofs.FillLaws.{sets_fill}
+use Rattle.sectors.specs.FillLaws.{sets_fill}
 use Rattle.sectors.specs.Format.{sector_size}
 use Rattle.sectors.specs.Refusal.{short_buffer}
-use Rattle.area.proofs.TestLaws.{or_left, or_right}
+use Rattle.area.specs.TestLaws.{or_left, or_right}
 use Rattle.area.specs.Lent.{counted}
-use Rattle.area.proofs.LentLaws.{counted_none, counted_all, sets_counted}
+use Rattle.area.specs.LentLaws.{counted_none, counted_all, sets_counted}
 use Rattle.area.specs.Limits.{max_table_bytes, max_tracks, table_bytes}
-use Rattle.area.proofs.LimitLaws.{table_bytes_all}
+use Rattle.area.specs.LimitLaws.{table_bytes_all}
 use Rattle.area.specs.Refusal.{no_audio_areas, odd_table}
 use Rattle.area.specs.Warning.{word_of}
 use Rattle.area.specs.Area.{no_area}

@@ -11,10 +11,10 @@ use Rattle.std.proofs.Math.Path.{refl, ap}
 use borrow.Author.Tests.{eq-eqb, ne_eqb, eqb-false, ltb-true, ltb-false, not-true}
 use Rattle.std.proofs.Math.ListN.{length}
 use Rattle.sectors.specs.Fill.{part}
-use Rattle.sectors.proofs.FillLaws.{part_size, part_at}
+use Rattle.sectors.specs.FillLaws.{part_size, part_at}
 use Rattle.sectors.specs.Format.{sector_size}
 use Rattle.sectors.specs.Number.{be_at}
-use Rattle.sectors.proofs.NumberLaws.{be_ext}
+use Rattle.sectors.specs.NumberLaws.{be_ext}
 use Rattle.sectors.specs.Signature.{signed_at}
 use Rattle.sectors.proofs.SignatureLaws.{signed_here, signed_is}
 use Rattle.text.specs.String.{nonzero, string_at, end_of}
@@ -28,7 +28,7 @@ use Rattle.area.specs.Locale.{max_locales, locales_offset, code_at, locale_at, l
 use Rattle.area.specs.Skip.{is_malformed, skip_by, skip_of}
 use Rattle.area.specs.Table.{Table, skips, of_slot, frequency_warnings, of_track, track_warnings, reads_of, tracks_of, tracks_warnings, yield_of, table_of, with_address, area_at, area_given, tracks_given, warnings_of}
 use Rattle.area.specs.Tabulate.{tabulate}
-use Rattle.area.proofs.TabulateLaws.{tabulate_ext}
+use Rattle.area.specs.TabulateLaws.{tabulate_ext}
 use Rattle.area.specs.Timecode.{timecode_at}
 use Rattle.area.specs.Track.{stored_times, genre_at, isrc_field, isrc_genre_at, track_of}
 use Rattle.area.specs.TextPlaces.{is_absent, placed_text, text_place_at}

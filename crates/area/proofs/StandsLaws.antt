@@ -7,7 +7,7 @@ use Rattle.std.proofs.lemmas.List.{length-map}
 use Rattle.std.proofs.Math.ListN.{get_or-append, get_or-map}
 use Rattle.area.specs.Capping.{Stands}
 use Rattle.area.specs.Tabulate.{tabulate}
-use Rattle.area.proofs.TabulateLaws.{tabulate_member}
+use Rattle.area.specs.TabulateLaws.{tabulate_member}
 use Rattle.area.proofs.WarningLaws.{flat_member}
 
 -- what stands at a place of a list is a member

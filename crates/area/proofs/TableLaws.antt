@@ -10,9 +10,9 @@ use Rattle.std.proofs.Math.Dec.{eqb}
 use Rattle.std.proofs.Math.ListN.{length, length-append, length-map}
 use Rattle.std.proofs.lemmas.Bool.{eqb-false}
 use Rattle.sectors.specs.Number.{be_at}
-use Rattle.sectors.proofs.NumberLaws.{be_below}
+use Rattle.sectors.specs.NumberLaws.{be_below}
 use Rattle.area.specs.Tabulate.{tabulate}
-use Rattle.area.proofs.TabulateLaws.{length_tabulate, tabulate_ext, tabulate_at, map_tabulate}
+use Rattle.area.specs.TabulateLaws.{length_tabulate, tabulate_ext, tabulate_at, map_tabulate}
 use Rattle.area.specs.Lent.{when_true}
 use Rattle.area.specs.Limits.{max_tracks, max_head_warnings, max_track_warnings, table_bytes}
 use Rattle.area.specs.Chain.{chain_of}

@@ -2,7 +2,7 @@
 -- text. Assumes nothing.
 use Rattle.std.specs.Prelude.{◌≡◌, refl, true, false, ◌||◌, List, [], ℕ, zero, suc, ◌≤◌, leb, ltb, length, replicate}
 use Rattle.std.proofs.Common.{sym, arith, le-ltb}
-use Rattle.sectors.proofs.FillLaws.{part_size}
+use Rattle.sectors.specs.FillLaws.{part_size}
 use Rattle.sectors.specs.Refusal.{short_buffer, no_such_entry}
 use Rattle.text.proofs.StringLaws.{placed_past}
 use Rattle.text.specs.Decode.{decode_of, decode_into}

@@ -15,7 +15,7 @@ use Rattle.text.proofs.StringLaws.{present_length, end_of_lem, by_end}
 use Rattle.area.specs.Area.{area_texts, area_texts_offset, area_texts_at}
 use Rattle.area.specs.Items.{item_at, next_item, items_from}
 use Rattle.area.specs.Tabulate.{tabulate}
-use Rattle.area.proofs.TabulateLaws.{tabulate_member}
+use Rattle.area.specs.TabulateLaws.{tabulate_member}
 use Rattle.area.specs.TextPlaces.{no_text_place, placed_text, is_absent, text_place_at, is_unterminated, any_unterminated}
 use Rattle.area.specs.TrackText.{track_texts, item_index, no_places, no_items, keep, keep_all, items_kept, no_text, text_of, text_offset, text_at, text_behind, track_text_of}
 use Rattle.area.specs.Warning.{track_text_offset_invalid}

@@ -7,7 +7,7 @@ use Rattle.area.specs.Warning.{track_text_offset_invalid, track_text_type_unknow
 use Rattle.area.specs.TrackText.{items_kept, no_text, text_of, text_offset, text_at, text_behind, track_text_of}
 use Rattle.area.specs.Timecode.{frame_number}
 use Rattle.area.specs.Cap.{exceeds}
-use Rattle.area.proofs.CapLaws.{cap_within, cap_warned}
+use Rattle.area.specs.CapLaws.{cap_within, cap_warned}
 use Rattle.area.specs.Track.{stored_times, capped_times, times_of, track_of, no_track}
 use Rattle.area.specs.declared.area.Area.{Area}
 use Rattle.area.specs.declared.chain.Chain.{Chain}

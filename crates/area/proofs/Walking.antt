@@ -6,7 +6,7 @@ use native.Mathlib.Omega.{arith}
 use lib.ListN.{length}
 use borrow.Author.Tests.{le-leb, lt-leb, eq-eqb, ne_eqb}
 use Rattle.sectors.specs.Format.{sector_size}
-use Rattle.area.proofs.TestLaws.{cond_same}
+use Rattle.area.specs.TestLaws.{cond_same}
 use Rattle.area.specs.Chain.{structure_at, sectors_of, noted, walk_from, nothing_kept, chain_of}
 use Rattle.area.specs.declared.chain.Chain.{Chain}
 use Rattle.area.specs.declared.chain.Structure.{Structure}

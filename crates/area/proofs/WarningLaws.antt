@@ -15,7 +15,7 @@ use Rattle.area.specs.Chain.{chain_of}
 use Rattle.area.specs.Skip.{skip_of}
 use Rattle.area.proofs.SkipLaws.{SkipCode, skip_code}
 use Rattle.area.specs.Warning.{word_of, area_signature_invalid, track_past_playtime, track_lsn_outside_area, sample_frequency_unknown, track_text_unterminated}
-use Rattle.area.proofs.TabulateLaws.{tabulate_member}
+use Rattle.area.specs.TabulateLaws.{tabulate_member}
 use Rattle.area.specs.TextPlaces.{any_unterminated}
 use Rattle.area.proofs.TextPlaceLaws.{AllTold, track_told, Unterminated, any_comes, any_only}
 use Rattle.area.specs.Table.{of_slot, dsd64, frequency_warnings, head_warnings, of_track, track_warnings, reads_of, tracks_warnings, yield_of, table_of, warnings_of, track_count, read_in, warnings_in}

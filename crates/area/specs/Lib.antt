@@ -20,3 +20,10 @@ pub mod Plan
 pub mod TextDecode
 pub mod Cursor
 pub mod Capping
+pub mod CapLaws
+pub mod ItemLaws
+pub mod LentLaws
+pub mod LimitLaws
+pub mod TabulateLaws
+pub mod TestLaws
+pub mod UnitLaws

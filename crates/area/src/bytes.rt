@@ -11,7 +11,7 @@ pub(crate) fn lesser(a: usize, b: usize) -> usize
 }
 
 // The byte at so many places past a place; 0 past the table's end.
-#[tactic(auto, using(sectors::proofs::NumberLaws::be_past))]
+#[tactic(auto, using(sectors::specs::NumberLaws::be_past))]
 pub(crate) fn byte_from(table: &[u8], at: usize, k: u8) -> u8
     ensures { result ≡ be_at table.now (at + k) 1 }
 {
@@ -22,7 +22,7 @@ pub(crate) fn byte_from(table: &[u8], at: usize, k: u8) -> u8
 }
 
 // At most so many bytes from a place on, as a part of the table.
-#[tactic(auto, using(sectors::proofs::FillLaws::slice_part, sectors::proofs::FillLaws::part_cut, sectors::proofs::FillLaws::part_from, sectors::proofs::FillLaws::slice_start))]
+#[tactic(auto, using(sectors::specs::FillLaws::slice_part, sectors::specs::FillLaws::part_cut, sectors::specs::FillLaws::part_from, sectors::specs::FillLaws::slice_start))]
 pub fn part_of<'a>(table: &'a [u8], at: usize, n: usize) -> &'a [u8]
     ensures bytes { result.now ≡ part at n table.now }
     ensures placed { result.ref_ptr ≡ start_at table.entry.ref_ptr (min at (length table.now)) }

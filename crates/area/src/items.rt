@@ -17,7 +17,7 @@ pub struct Drawn {
 }
 
 // The place of the next nonzero byte, from a place on; the table's end if none follows.
-#[tactic(auto, using(crate::proofs::ItemLaws::nonzero_more, crate::proofs::ItemLaws::nonzero_found, crate::proofs::ItemLaws::nonzero_end))]
+#[tactic(auto, using(crate::specs::ItemLaws::nonzero_more, crate::specs::ItemLaws::nonzero_found, crate::specs::ItemLaws::nonzero_end))]
 fn nonzero_at(table: &[u8], from: usize) -> usize
     ensures { result ≡ nonzero_at table.now from }
 {
@@ -47,7 +47,7 @@ fn drawn_none(next: usize, left: usize) -> Drawn
 }
 
 // The next item from a place on, of so many that are left, empty and unknown ones included.
-#[tactic(auto, using(crate::proofs::ItemLaws::draw_none, crate::proofs::ItemLaws::draw_short, text::proofs::StringLaws::string_within))]
+#[tactic(auto, using(crate::specs::ItemLaws::draw_none, crate::specs::ItemLaws::draw_short, text::proofs::StringLaws::string_within))]
 pub fn draw_at(table: &[u8], next: usize, left: usize) -> Drawn
     ensures { result ≡ draw_at table.now next left }
 {

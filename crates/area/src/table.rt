@@ -60,7 +60,7 @@ pub(crate) fn table_bytes<'a>(lent: &'a [u8], sectors: u16) -> &'a [u8]
 }
 
 // Reads the head of a table of so many sectors, at the start of what is lent.
-#[tactic(auto, using(crate::proofs::LimitLaws::table_bytes_small), unfolding(crate::specs::Table::head_of, crate::specs::Skip::skip_of))]
+#[tactic(auto, using(crate::specs::LimitLaws::table_bytes_small), unfolding(crate::specs::Table::head_of, crate::specs::Skip::skip_of))]
 pub fn table_head(lent: &[u8], slot: u8, lsn: Lsn, sectors: u16) -> TableHead
     ensures { result ≡ head_of (table_bytes sectors lent.now) slot lsn.0 sectors }
 {
@@ -166,7 +166,7 @@ pub fn track_count(head: TableHead) -> usize
 }
 
 // The track of an index by a head, counted from 0; past the last the zero record, with no warning.
-#[tactic(auto, using(crate::proofs::LimitLaws::table_bytes_small), unfolding(crate::specs::Table::read_in, crate::specs::Table::track_count))]
+#[tactic(auto, using(crate::specs::LimitLaws::table_bytes_small), unfolding(crate::specs::Table::read_in, crate::specs::Table::track_count))]
 fn read_track(lent: &[u8], head: TableHead, i: usize) -> TrackRead
     ensures { result ≡ read_in lent.now head i }
 {

@@ -88,7 +88,7 @@ fn no_text(warning: u8) -> TrackText
 }
 
 // The texts of the track of an index, by the text block at a place (0: there is none).
-#[tactic(auto, using(sectors::proofs::NumberLaws::be_byte), unfolding(crate::specs::TrackText::track_text_of, crate::specs::TrackText::text_behind, crate::specs::TrackText::text_offset, crate::specs::TrackText::text_at, crate::specs::TrackText::text_of))]
+#[tactic(auto, using(sectors::specs::NumberLaws::be_byte), unfolding(crate::specs::TrackText::track_text_of, crate::specs::TrackText::text_behind, crate::specs::TrackText::text_offset, crate::specs::TrackText::text_at, crate::specs::TrackText::text_of))]
 pub(crate) fn track_text(table: &[u8], block: u32, i: usize) -> TrackText
     requires { (length table.now ≤ max_table_bytes) × (i < max_tracks) }
     ensures { result ≡ track_text_of table.now block i }

@@ -8,7 +8,7 @@ use Rattle.std.proofs.Math.Option.{Option, none, some}
 use Rattle.std.proofs.Math.Path.{sym, ap, subst}
 use Rattle.std.proofs.Math.ListN.{length-map}
 use Rattle.sectors.specs.Fill.{part}
-use Rattle.sectors.proofs.FillLaws.{part_filled}
+use Rattle.sectors.specs.FillLaws.{part_filled}
 use Rattle.sectors.specs.Format.{foreign}
 use Rattle.sectors.specs.Refusal.{foreign_format}
 use Rattle.sectors.specs.Source.{Source, Sized, image_source}
@@ -22,17 +22,17 @@ use Rattle.area.proofs.WarningLaws.{table_warnings_of}
 use Rattle.area.specs.declared.track.Track.{Track}
 use Rattle.area.specs.declared.warning.Warning.{Warning}
 use Rattle.disc.specs.Capping.{TracksCapped}
-use Rattle.disc.proofs.ChosenLaws.{yielded_area, yielded_tracks}
+use Rattle.disc.specs.ChosenLaws.{yielded_area, yielded_tracks}
 use Rattle.disc.specs.Copies.{copies_of, copy_warnings, Copy, chosen, table_in, area_in, tracks_in, warnings_in, slot_table, slot_warnings}
-use Rattle.disc.proofs.Demand3Proof.{known_read}
+use Rattle.disc.specs.Demand3Proof.{known_read}
 use Rattle.disc.specs.Disc.{master_copies_differ, disc_warnings, warnings_of, table_of, words_after, reading_of, outcome_of, image_master, read_source, read_disc}
-use Rattle.disc.proofs.DiscLaws.{Passed, count_back, passed_read, passed_of, refusal_yields}
+use Rattle.disc.specs.DiscLaws.{Passed, count_back, passed_read, passed_of, refusal_yields}
 use Rattle.disc.specs.Master.{pointer_of}
 use Rattle.disc.specs.Outcome.{Memory, Outcome, slot_yields}
 use Rattle.disc.specs.Slot.{Slot, two_channel, multichannel, slot_number}
-use Rattle.disc.proofs.SourceCut.{passed_yields}
+use Rattle.disc.specs.SourceCut.{passed_yields}
 use Rattle.disc.specs.WarningBounds.{warnings_fit}
-use Rattle.disc.proofs.WarningLaws.{OwnCode, own_not, every_copies, every_disc, every_table, warning_bytes, slot_number_few}
+use Rattle.disc.specs.WarningLaws.{OwnCode, own_not, every_copies, every_disc, every_table, warning_bytes, slot_number_few}
 
 -- ---- where 14 of a track is not
 

@@ -9,7 +9,7 @@ use contract.Monad.{Fun, fact}
 use Rattle.disc.specs.Calls.{LentCall, lent_call, lent_says}
 use Rattle.disc.specs.Capping.{TracksCapped}
 use Rattle.disc.proofs.CappingCalls.{call_capped}
-use Rattle.disc.proofs.Demand3Calls.{Demanded, demanded}
+use Rattle.disc.specs.Demand3Calls.{Demanded, demanded}
 use Rattle.disc.specs.contracts.disc.read_disc as read
 
 module _ {M : Type 1} {𝓤 : Ura M} (𝓛 : Logic 𝓤) (mem : Store → SProp 𝓤) (run : Routine → Fun 𝓤) (κs : Lfts 4) where

@@ -3,7 +3,7 @@ use mathlib.Core.Path.{◌≡◌, ap, ◌∙◌}
 use mathlib.Core.List.{List, [], ◌∷◌}
 use Prim.Native.Nat.{ℕ, zero, suc}
 use Rattle.area.specs.Tabulate.{tabulate}
-use Rattle.area.proofs.TabulateLaws.{tabulate_none, tabulate_next}
+use Rattle.area.specs.TabulateLaws.{tabulate_none, tabulate_next}
 
 module _ {A : Type 0} where
   abbrev pub spelled : ℕ → (ℕ → A) → List A

@@ -6,10 +6,10 @@ use mathlib.Core.List.{List, [], ◌∷◌, ◌++◌}
 use Rattle.std.proofs.Math.Path.{refl, ap}
 use Rattle.std.proofs.lemmas.List.{length-replicate}
 use Rattle.sectors.specs.Fill.{part, fill}
-use Rattle.sectors.proofs.FillLaws.{part_all, part_front, length_fill, part_filled, part_before}
+use Rattle.sectors.specs.FillLaws.{part_all, part_front, length_fill, part_filled, part_before}
 use Rattle.sectors.specs.Format.{sector_size}
 use Rattle.sectors.specs.Number.{be_at}
-use Rattle.sectors.proofs.NumberLaws.{be_byte, be_split, be_part}
+use Rattle.sectors.specs.NumberLaws.{be_byte, be_split, be_part}
 use Rattle.sectors.specs.Sector.{sector_count}
 use Rattle.sectors.proofs.SectorLaws.{is_readable, plain_count, plain_run}
 use Rattle.sectors.specs.Signature.{signed_at}
@@ -19,7 +19,7 @@ use Rattle.area.specs.Chain.{track_list1_signature, track_list2_signature}
 use Rattle.area.specs.Skip.{skip_of}
 use Rattle.area.proofs.SkipLaws.{two_channel_serves, multichannel_serves, unsigned_skipped as neither-skipped, skip_none}
 use Rattle.area.specs.Warning.{area_signature_invalid}
-use Rattle.area.proofs.UnitLaws.{lsn_number}
+use Rattle.area.specs.UnitLaws.{lsn_number}
 use Rattle.disc.specs.Slot.{two_channel}
 use Rattle.disc.specs.Master.{master_lsn, master_sectors, master_signature, is_scarlet_book, major_version, pointer_at, pointer_of, master_of}
 use Rattle.disc.specs.Demand3.{Served, HasSecond, first_place, second_place, master_table, copy_bytes, pointer}

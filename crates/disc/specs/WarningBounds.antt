@@ -9,7 +9,7 @@ use Rattle.std.proofs.Math.ListN.{length}
 use Rattle.sectors.specs.Bytes.{same}
 use Rattle.sectors.specs.Number.{be_at}
 use Rattle.sectors.specs.Source.{Source}
-use Rattle.area.proofs.LentLaws.{when_length}
+use Rattle.area.specs.LentLaws.{when_length}
 use Rattle.area.specs.Limits.{max_tracks, max_head_warnings, max_track_warnings}
 use Rattle.area.specs.Table as Area
 use Rattle.area.proofs.TableLaws.{area_of, address_warnings, warnings_most}

@@ -61,7 +61,7 @@ fn master_refusal(sector: &[u8]) -> u8
 }
 
 // The first of refusals 1 to 5 that applies; 0 if none does.
-#[tactic(auto, using(crate::proofs::FetchLaws::refusal_foreign, crate::proofs::FetchLaws::refusal_short, crate::proofs::FetchLaws::refusal_cut, crate::proofs::FetchLaws::refusal_sector), unfolding(crate::specs::Disc::is_short))]
+#[tactic(auto, using(crate::specs::FetchLaws::refusal_foreign, crate::specs::FetchLaws::refusal_short, crate::specs::FetchLaws::refusal_cut, crate::specs::FetchLaws::refusal_sector), unfolding(crate::specs::Disc::is_short))]
 pub(crate) fn open_refusal(
     format: u32,
     image: &[u8],
@@ -93,7 +93,7 @@ fn run_differs(format: u32, image: &[u8], lsn: Lsn, sectors: usize, bytes: &[u8]
 }
 
 // Whether a readable copy of the master table differs from it.
-#[tactic(auto, using(crate::proofs::FetchLaws::master_copies_differ_lem))]
+#[tactic(auto, using(crate::specs::FetchLaws::master_copies_differ_lem))]
 fn master_copies_differ(format: u32, image: &[u8], table: &[u8]) -> bool
     requires { (foreign format ≡ false) × (length table.now ≡ master_bytes) }
     ensures { result ≡ master_copies_differ (image_source format image.now) table.now }

@@ -70,7 +70,7 @@ fn push_unreadable(words: &mut [u32], count: usize, slot: u8, copies: SlotCopies
 }
 
 // Writes the warnings of a slot's copies.
-#[tactic(auto, using(area::proofs::LentLaws::when_given, area::proofs::LentLaws::counted_none), unfolding(crate::specs::Copies::copy_warnings))]
+#[tactic(auto, using(area::specs::LentLaws::when_given, area::specs::LentLaws::counted_none), unfolding(crate::specs::Copies::copy_warnings))]
 fn push_copies(words: &mut [u32], count: usize, slot: u8, copies: SlotCopies) -> usize
     ensures written { words.new ≡ sets words.old count (map word_of (copy_warnings slot copies)) }
     ensures counted { result ≡ counted words.old count (copy_warnings slot copies) }

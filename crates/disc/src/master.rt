@@ -86,7 +86,7 @@ pub struct MasterToc {
 }
 
 // A slot's pointers: each number stands at its own place.
-#[tactic(auto, using(area::proofs::UnitLaws::lsn_at_lem), unfolding(crate::specs::Master::pointer_at))]
+#[tactic(auto, using(area::specs::UnitLaws::lsn_at_lem), unfolding(crate::specs::Master::pointer_at))]
 fn pointer_at(table: &[u8], toc1: usize, toc2: usize, sectors: usize) -> AreaPointer
     ensures { result ≡ pointer_at table.now toc1 toc2 sectors }
 {

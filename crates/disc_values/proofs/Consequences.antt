@@ -12,7 +12,7 @@ use Rattle.area.specs.Lent.{Shown, Lent}
 use Rattle.area.specs.declared.track.Track.{Track}
 use Rattle.disc.specs.Calls.{Call}
 use Rattle.disc.specs.Capping.{TracksCapped}
-use Rattle.disc.specs.CappingCalls.{call_capped}
+use Rattle.disc.proofs.CappingCalls.{call_capped}
 use Rattle.disc.specs.Demand3Calls.{Demanded, demanded}
 use Rattle.disc_values.specs.declared.reading.Reading.{Reading}
 use Rattle.disc_values.specs.contracts.reading.read_disc_by_value as read

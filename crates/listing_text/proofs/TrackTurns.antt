@@ -7,9 +7,9 @@ use native.Mathlib.Numerals.{add-one}
 use lib.ListN.{length, take, drop, length-map}
 use lib.Seq.{sets, length-sets, sets-eq, take_at}
 use Rattle.area.specs.Tabulate.{tabulate}
-use Rattle.area.proofs.TabulateLaws.{length_tabulate, tabulate_none, tabulate_more}
+use Rattle.area.specs.TabulateLaws.{length_tabulate, tabulate_none, tabulate_more}
 use Rattle.area.specs.Lent.{counted}
-use Rattle.area.proofs.LentLaws.{counted_none, counted_all, counted_within, counted_then, sets_counted}
+use Rattle.area.specs.LentLaws.{counted_none, counted_all, counted_within, counted_then, sets_counted}
 use Rattle.area.specs.Warning.{word_of}
 use Rattle.area.specs.Table.{track_warnings, track_count, read_in, tracks_in, warnings_in}
 use Rattle.area.proofs.TableLaws.{tracks_in_lem, warnings_in_lem}

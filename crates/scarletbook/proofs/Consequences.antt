@@ -11,7 +11,7 @@ use Rattle.area.proofs.CappingCalls.{TableCall, TableCapped, table_capped}
 use Rattle.disc.specs.Calls.{LentCall, lent_call, lent_says}
 use Rattle.disc.specs.Capping.{TracksCapped}
 use Rattle.disc.proofs.CappingCalls.{call_capped}
-use Rattle.disc.proofs.Demand3Calls.{Demanded, demanded}
+use Rattle.disc.specs.Demand3Calls.{Demanded, demanded}
 use Rattle.scarletbook.specs.contracts.scarletbook_read_disc as read
 use Rattle.scarletbook.specs.contracts.scarletbook_read_table as read_table
 

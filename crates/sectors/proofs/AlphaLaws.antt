@@ -3,7 +3,7 @@
 use Rattle.std.specs.Prelude.{◌≡◌, ℕ, ◌*◌, ◌/◌, ◌%◌, ◌^◌, ◌<◌, Bool, cond, ◌==◌, refl}
 use Rattle.std.proofs.Common.{sym, ap, ◌∙◌, arith, eq-eqb}
 use Rattle.sectors.specs.Field.{◌⊕◌, times_alpha}
-use Rattle.sectors.proofs.TableLaws.{values, agree}
+use Rattle.sectors.specs.TableLaws.{values, agree}
 use Rattle.sectors.proofs.XorLaws.{sums, sum_lt, sum_up, sum_down, sum_low}
 
 pub alpha_zero : times_alpha 0 ≡ 0

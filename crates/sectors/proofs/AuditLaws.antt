@@ -4,8 +4,8 @@ use Rattle.std.specs.Prelude.{◌≡◌, ℕ, ◌*◌, ◌<◌, Bool, true, fals
 use Rattle.std.proofs.Math.Path.{sym}
 use Rattle.std.proofs.Common.{ap, ◌∙◌, arith}
 use borrow.Author.Tests.{eqb-true, ne_eqb}
-use Rattle.sectors.proofs.CheckLaws.{comes_here, comes_later, not_either}
-use Rattle.sectors.proofs.FillLaws.{part_length, part_all_hold}
+use Rattle.sectors.specs.CheckLaws.{comes_here, comes_later, not_either}
+use Rattle.sectors.specs.FillLaws.{part_length, part_all_hold}
 use Rattle.sectors.specs.Format.{foreign, layout_of, stored_size}
 use Rattle.sectors.specs.Refusal.{foreign_format, no_such_entry, no_header}
 use Rattle.sectors.specs.Sector.{readable}

@@ -4,13 +4,13 @@ use Rattle.std.specs.Prelude.{◌≡◌, ℕ, ◌<◌, true, not, ◌↔◌, Lis
 use Rattle.std.proofs.Common.{sym, ap, ◌∙◌, eqb-true, arith}
 use Rattle.std.proofs.Math.Bool.{and-eq-true_iff}
 use Rattle.std.proofs.lemmas.Bool.{not-true}
-use Rattle.sectors.proofs.BytesLaws.{same_eq, same_refl}
-use Rattle.sectors.proofs.CheckLaws.{fails}
+use Rattle.sectors.specs.BytesLaws.{same_eq, same_refl}
+use Rattle.sectors.specs.CheckLaws.{fails}
 use Rattle.sectors.specs.Field.{◌⊕◌, times_alpha}
 use Rattle.sectors.specs.Header.{SixBytes, times_root, product, Multiple, Blank, Sound, Unsound, six_zeros, at_one, at_alpha, is_multiple, is_blank, is_sound}
 use Rattle.sectors.proofs.XorLaws.{sums, sum_lt, zero_sum, equal_if_zero}
 use Rattle.sectors.proofs.AlphaLaws.{linear, alpha_zero, alpha_lt, only_zero_stays}
-use Rattle.sectors.proofs.TableLaws.{values, places}
+use Rattle.sectors.specs.TableLaws.{values, places}
 
 product_passes : (a b c d : ℕ) → a < 256 → b < 256 → c < 256 → d < 256 → is_multiple (product (a ∷ b ∷ c ∷ d ∷ [])) ≡ true
 unfolding is_multiple at_one at_alpha product times_root

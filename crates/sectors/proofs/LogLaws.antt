@@ -8,7 +8,7 @@ use native.Mathlib.Omega.{arith}
 use Rattle.std.proofs.Math.ListN.{get_or-eq_default}
 use borrow.Author.Tests.{ltb-true, ltb-false}
 use Rattle.sectors.specs.Field.{times_alpha, ◌⊕◌}
-use Rattle.sectors.proofs.TableLaws.{values, mapped}
+use Rattle.sectors.specs.TableLaws.{values, mapped}
 use Rattle.sectors.proofs.AlphaLaws.{alpha_zero}
 use Rattle.sectors.specs.Log.{repeated, times_power, powers_from, powers, stored, logs, log, nonzero_count, LeastExponent}
 

@@ -1,7 +1,7 @@
 -- Where a program finds a part of a stored sector. Assumes nothing.
 use Rattle.std.proofs.Common.{◌≡◌, ℕ, zero, suc, ◌+◌, ◌-◌, ◌*◌, ◌^◌, ◌<◌, ◌≤◌, true, List, length, take, drop, ap, ◌∙◌, mul-le-mul_left, arith}
 use Rattle.sectors.specs.Fill.{part}
-use Rattle.sectors.proofs.FillLaws.{slice_part}
+use Rattle.sectors.specs.FillLaws.{slice_part}
 use Rattle.sectors.specs.Format.{layout_of, stored_size, data_offset}
 use Rattle.sectors.specs.Sector.{readable}
 use Rattle.sectors.proofs.SectorLaws.{stored_inside}

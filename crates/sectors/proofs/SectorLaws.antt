@@ -9,7 +9,7 @@ use Rattle.std.proofs.Math.ListN.{length-append, get_or-eq_default}
 use Rattle.std.proofs.Math.Seq.{drop_at}
 use Rattle.std.proofs.lemmas.Bool.{lt-leb}
 use Rattle.sectors.specs.Fill.{part}
-use Rattle.sectors.proofs.FillLaws.{part_length, part_at, part_part}
+use Rattle.sectors.specs.FillLaws.{part_length, part_at, part_part}
 use Rattle.sectors.specs.declared.sector.Layout.{Layout}
 use Rattle.sectors.specs.Format.{foreign, layouts, layout_of, stored_size, data_offset, sector_size}
 use Rattle.sectors.specs.Sector.{sector_count, readable, sector_data, data_start, run_data}

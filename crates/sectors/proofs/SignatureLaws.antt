@@ -2,9 +2,9 @@
 use Rattle.std.specs.Prelude.{◌≡◌, ℕ, ◌+◌, ◌<◌, ◌≤◌, Bool, true, false, List, length, ◌≢◌, refl}
 use Rattle.std.proofs.Common.{arith, sym, ap, ◌∙◌, length-take, length-drop}
 use Rattle.sectors.specs.Bytes.{same}
-use Rattle.sectors.proofs.BytesLaws.{same_eq, same_refl}
+use Rattle.sectors.specs.BytesLaws.{same_eq, same_refl}
 use Rattle.sectors.specs.Fill.{part}
-use Rattle.sectors.proofs.FillLaws.{part_part}
+use Rattle.sectors.specs.FillLaws.{part_part}
 use Rattle.sectors.specs.Signature.{signed_at}
 
 -- a signature that the table ends before is not there

@@ -6,7 +6,7 @@ use Rattle.std.proofs.Common.{arith, sym, ◌∙◌, ap, length-append, leb-true
 use Rattle.std.proofs.Math.Path.{refl}
 use Rattle.std.proofs.Math.Option.{Option, none, some}
 use Rattle.sectors.specs.Options.{only_if, Known}
-use Rattle.sectors.proofs.OptionLaws.{some_eq, no_some}
+use Rattle.sectors.specs.OptionLaws.{some_eq, no_some}
 use Rattle.sectors.specs.Format.{stored_size, data_offset, sector_size}
 use Rattle.sectors.specs.Sector.{sector_count, readable, sector_data, run_data}
 use Rattle.sectors.proofs.SectorLaws.{readable_true, is_readable, sector_of_run, run_shorter, sector_length, sector_inside, sector_ext, count_mono}

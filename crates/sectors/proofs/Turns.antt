@@ -2,12 +2,12 @@
 use Rattle.std.proofs.Common.{◌≡◌, ℕ, ◌+◌, ◌-◌, ◌*◌, ◌<◌, ◌≤◌, Bool, true, false, List, ◌++◌, length, take, drop, sym, refl, ap, ◌∙◌, add-one, arith, length-drop, take-append-drop, length-take, length-take-le, take-add}
 use borrow.Rule.Slice.PartMut.{put_mid}
 use Rattle.sectors.specs.Fill.{part, fill}
-use Rattle.sectors.proofs.FillLaws.{slice_part, put_fill, part_front, fill_more}
+use Rattle.sectors.specs.FillLaws.{slice_part, put_fill, part_front, fill_more}
 use Rattle.sectors.specs.Format.{sector_size}
 use Rattle.sectors.specs.Sector.{readable, sector_data, run_data}
 use Rattle.sectors.proofs.SectorLaws.{readable_true, count_bound, sector_of_run, sector_length, run_shorter, run_length, run_part}
 use Rattle.sectors.specs.Bytes.{same}
-use Rattle.sectors.proofs.BytesLaws.{same_eq, same_refl, same_append}
+use Rattle.sectors.specs.BytesLaws.{same_eq, same_refl, same_append}
 
 -- the lent bytes of sector k
 pub bytes_part : (bytes : List ℕ) (to k : ℕ) → to ≡ k * sector_size → take (to + sector_size - to) (drop to bytes) ≡ part (k * sector_size) sector_size bytes

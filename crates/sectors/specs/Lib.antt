@@ -14,3 +14,10 @@ pub mod Audit
 pub mod Log
 pub mod Mend
 pub mod Fnv
+pub mod BytesLaws
+pub mod CheckLaws
+pub mod CopyLaws
+pub mod FillLaws
+pub mod NumberLaws
+pub mod OptionLaws
+pub mod TableLaws

@@ -14,7 +14,7 @@ fn fitting(count: usize, size: usize, at: usize) -> usize
 }
 
 // Copies bytes into a buffer from a place on, as many as fit.
-#[tactic(auto, using(crate::proofs::FillLaws::fill_none, crate::proofs::CopyLaws::copy_more, crate::proofs::CopyLaws::copy_all))]
+#[tactic(auto, using(crate::specs::FillLaws::fill_none, crate::specs::CopyLaws::copy_more, crate::specs::CopyLaws::copy_all))]
 pub fn copy_bytes(from: &[u8], to: &mut [u8], at: usize)
     ensures { to.new ≡ copy_into at from.now to.old }
 {
@@ -27,7 +27,7 @@ pub fn copy_bytes(from: &[u8], to: &mut [u8], at: usize)
 }
 
 // Whether two lists of bytes of the same number are the same; every byte is looked at.
-#[tactic(auto, using(crate::proofs::BytesLaws::same_more), unfolding(crate::specs::Bytes::same))]
+#[tactic(auto, using(crate::specs::BytesLaws::same_more), unfolding(crate::specs::Bytes::same))]
 pub(crate) fn same_bytes(a: &[u8], b: &[u8]) -> bool
     requires { length a.now ≡ length b.now }
     ensures { result ≡ same a.now b.now }

@@ -3,7 +3,7 @@ ghost use Rattle.std.specs.Prelude.{◌≡◌};
 ghost use Rattle.sectors.specs.Number.{be_at};
 
 // The byte at a place.
-#[tactic(auto, using(crate::proofs::NumberLaws::be_past, crate::proofs::NumberLaws::be_byte))]
+#[tactic(auto, using(crate::specs::NumberLaws::be_past, crate::specs::NumberLaws::be_byte))]
 pub fn byte_at(table: &[u8], at: usize) -> u8
     ensures { result ≡ be_at table.now at 1 }
 {
@@ -11,7 +11,7 @@ pub fn byte_at(table: &[u8], at: usize) -> u8
 }
 
 // The number in two bytes from a place on.
-#[tactic(auto, using(crate::proofs::NumberLaws::be_past))]
+#[tactic(auto, using(crate::specs::NumberLaws::be_past))]
 pub fn be16_at(table: &[u8], at: usize) -> u16
     ensures { result ≡ be_at table.now at 2 }
 {
@@ -24,7 +24,7 @@ pub fn be16_at(table: &[u8], at: usize) -> u16
 }
 
 // The number in four bytes from a place on.
-#[tactic(auto, using(crate::proofs::NumberLaws::be_past))]
+#[tactic(auto, using(crate::specs::NumberLaws::be_past))]
 pub fn be32_at(table: &[u8], at: usize) -> u32
     ensures { result ≡ be_at table.now at 4 }
 {

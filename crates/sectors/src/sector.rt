@@ -110,7 +110,7 @@ pub(crate) fn stored_data<'a>(format: u32, image: &'a [u8], n: usize) -> &'a [u8
 }
 
 // The data bytes of a sector, as a part of the image; empty, at its start, if it is not in the image.
-#[tactic(auto, using(crate::proofs::SectorLaws::sector_missing, crate::proofs::SectorLaws::data_starts, crate::proofs::SectorLaws::data_missing, crate::proofs::FillLaws::start_whole))]
+#[tactic(auto, using(crate::proofs::SectorLaws::sector_missing, crate::proofs::SectorLaws::data_starts, crate::proofs::SectorLaws::data_missing, crate::specs::FillLaws::start_whole))]
 pub fn sector_data<'a>(format: u32, image: &'a [u8], lsn: Lsn) -> &'a [u8]
     ensures bytes { result.now ≡ sector_data format image.now lsn.0 }
     ensures placed { result.ref_ptr ≡ start_at image.entry.ref_ptr (data_start format (length image.now) lsn.0) }

@@ -8,7 +8,7 @@ use crate::bytes::same_bytes;
 pub const SIGNATURE_SIZE: usize = 8;
 
 // Whether a signature stands at a place of a table.
-#[tactic(auto, using(crate::proofs::SignatureLaws::signed_cut, crate::proofs::FillLaws::slice_part), unfolding(crate::specs::Signature::signed_at))]
+#[tactic(auto, using(crate::proofs::SignatureLaws::signed_cut, crate::specs::FillLaws::slice_part), unfolding(crate::specs::Signature::signed_at))]
 pub fn has_signature(table: &[u8], at: usize, signature: [u8; 8]) -> bool
     ensures { result ≡ signed_at table.now at signature }
 {

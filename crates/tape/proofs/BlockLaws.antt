@@ -7,7 +7,7 @@ use Rattle.std.proofs.Math.Path.{sym}
 use mathlib.Core.List.{List, ◌++◌, append_assoc}
 use Rattle.std.proofs.Math.ListN.{length, length-append}
 use Rattle.sectors.specs.Fill.{part}
-use Rattle.sectors.proofs.FillLaws.{slice_part}
+use Rattle.sectors.specs.FillLaws.{slice_part}
 use Rattle.tape.specs.Store.{blocks}
 
 part_is : (at n : ℕ) (l : List ℕ) → part at n l ≡ take n (drop at l)

@@ -6,8 +6,8 @@ use mathlib.Core.Path.{◌≡◌, refl, sym, ap, ap₂, ◌∙◌}
 use mathlib.Core.List.{List, ◌++◌}
 use lib.ListN.{length, take, drop, length-append}
 use Rattle.sectors.specs.Fill.{part, fill, copy_into}
-use Rattle.sectors.proofs.FillLaws.{slice_part, part_length, part_all, put_fill, length_fill, part_filled, part_before, part_after, fill_more}
-use Rattle.sectors.proofs.CopyLaws.{copy_whole, copy_over}
+use Rattle.sectors.specs.FillLaws.{slice_part, part_length, part_all, put_fill, length_fill, part_filled, part_before, part_after, fill_more}
+use Rattle.sectors.specs.CopyLaws.{copy_whole, copy_over}
 use Rattle.tape.proofs.BlockLaws.{part_add, part_three}
 
 -- what a copy from a place to a place leaves

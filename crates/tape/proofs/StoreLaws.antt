@@ -11,7 +11,7 @@ use Rattle.std.proofs.Math.ListN.{length-append}
 use Rattle.std.proofs.Math.Seq.{drop_at}
 use Rattle.sectors.specs.Audit.{header_format}
 use Rattle.sectors.specs.Fill.{part}
-use Rattle.sectors.proofs.FillLaws.{part_length, part_part}
+use Rattle.sectors.specs.FillLaws.{part_length, part_part}
 use Rattle.sectors.specs.Format.{sector_size}
 use Rattle.sectors.specs.Sector.{sector_count}
 use Rattle.sectors.proofs.SectorLaws.{raw2064_size, count_fits, count_most}

@@ -9,7 +9,7 @@ use borrow.Author.Tests.{eq-eqb, ne_eqb}
 use lib.ListN.{length, drop, length-append, length-drop}
 use Rattle.sectors.specs.Audit.{header_format}
 use Rattle.sectors.specs.Fill.{part, fill}
-use Rattle.sectors.proofs.FillLaws.{fill_none}
+use Rattle.sectors.specs.FillLaws.{fill_none}
 use Rattle.sectors.specs.Format.{sector_size}
 use Rattle.sectors.specs.Sector.{sector_count}
 use Rattle.tape.specs.Store.{head_size, tail_size, tail_offset, raw_size, sectors_in, blocks, piece_of, gathered, piece_from, sector_from, scattered, unequal_lengths, lengths_refusal, gather_into, scatter_into}

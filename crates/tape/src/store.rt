@@ -31,7 +31,7 @@ fn copy_part(from: &[u8], at: usize, to: &mut [u8], place: usize, size: usize)
 }
 
 // Copies a piece of sector k of n, its bytes from an offset on, from its place in the image to that among gathered ones, or back.
-#[tactic(auto, using(crate::specs::StoreLaws::place_inside), unfolding(crate::specs::Steps::piece_copied, crate::specs::Store::piece_from, crate::specs::Store::piece_of))]
+#[tactic(auto, using(crate::proofs::StoreLaws::place_inside), unfolding(crate::specs::Steps::piece_copied, crate::specs::Store::piece_from, crate::specs::Store::piece_of))]
 fn copy_piece(
     from: &[u8],
     to: &mut [u8],
@@ -85,7 +85,7 @@ fn copy_image(from: &[u8], to: &mut [u8], back: bool) -> u8
 }
 
 // Writes all heads of a format 2 image, then all data, then all tails, then the rest as it came. A refusal changes nothing.
-#[tactic(auto, using(crate::specs::StoreLaws::gather_restored), unfolding(crate::specs::Steps::image_copied))]
+#[tactic(auto, using(crate::proofs::StoreLaws::gather_restored), unfolding(crate::specs::Steps::image_copied))]
 pub fn gather_sectors(image: &[u8], out: &mut [u8]) -> u8
     ensures refusal { result ≡ lengths_refusal (length image.now) (length out.old) }
     ensures written { out.new ≡ gather_into image.now out.old }
@@ -95,7 +95,7 @@ pub fn gather_sectors(image: &[u8], out: &mut [u8]) -> u8
 }
 
 // The way back: writes the image whose gathered bytes these are. A refusal changes nothing.
-#[tactic(auto, using(crate::specs::StoreLaws::scatter_restored), unfolding(crate::specs::Steps::image_copied))]
+#[tactic(auto, using(crate::proofs::StoreLaws::scatter_restored), unfolding(crate::specs::Steps::image_copied))]
 pub fn scatter_sectors(bytes: &[u8], out: &mut [u8]) -> u8
     ensures refusal { result ≡ lengths_refusal (length bytes.now) (length out.old) }
     ensures written { out.new ≡ scatter_into bytes.now out.old }

@@ -8,7 +8,7 @@ use borrow.Author.Tests.{ltb-true}
 use lib.Dec.{ltb}
 use lib.ListN.{length, get_or, take, length-append}
 use Rattle.text.specs.Utf8.{utf8, blanked, encoded}
-use Rattle.text.proofs.Utf8Laws.{utf8_one, blanked_below}
+use Rattle.text.specs.Utf8Laws.{utf8_one, blanked_below}
 use Rattle.text.specs.While.{take_while}
 use Rattle.text.specs.String.{nonzero, until_zero}
 use Rattle.text.proofs.StringLaws.{eq_nonzero}

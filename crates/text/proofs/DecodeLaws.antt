@@ -7,16 +7,16 @@ use native.Mathlib.Omega.{arith}
 use Rattle.std.proofs.lemmas.Bool.{lt-leb, eqb-false}
 use Rattle.std.proofs.Math.ListN.{length}
 use Rattle.sectors.specs.Fill.{fill}
-use Rattle.sectors.proofs.FillLaws.{fill_none, length_fill}
+use Rattle.sectors.specs.FillLaws.{fill_none, length_fill}
 use Rattle.text.specs.Refusal.{set_not_held, short_page, bad_mapping}
 use Rattle.text.specs.String.{present}
 use Rattle.text.specs.Charset.{set_of, is_mapped, latin1, charset_of}
-use Rattle.text.proofs.CharsetLaws.{charset_mapped, latin1_unmapped, not_latin1_mapped}
+use Rattle.text.specs.CharsetLaws.{charset_mapped, latin1_unmapped, not_latin1_mapped}
 use Rattle.text.specs.Mapping.{all_points, is_mapping}
 use Rattle.text.specs.Mapped.{mapped_points}
 use Rattle.text.proofs.MappedLaws.{bytes_sound, text_most, text_some, mapped_sound}
 use Rattle.text.specs.Utf8.{encoded}
-use Rattle.text.proofs.Utf8Laws.{encoded_none, encoded_length, latin1_length}
+use Rattle.text.specs.Utf8Laws.{encoded_none, encoded_length, latin1_length}
 use Rattle.text.specs.Decode.{Decoded, refused, gives, latin1_points, mapped_of, unless_absent, points_of, refusing, giving, answer_in, page_with, decode_of, decode_into}
 use Rattle.text.specs.declared.decode.DecodeAnswer.{DecodeAnswer}
 

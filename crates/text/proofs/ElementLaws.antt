@@ -8,9 +8,9 @@ use Prim.Native.Nat.{ℕ, suc, ◌+◌, ◌*◌, ◌-◌, ◌≤◌, ◌<◌}
 use native.Mathlib.Omega.{arith}
 use Rattle.std.proofs.Math.ListN.{get_or}
 use Rattle.text.specs.Utf8.{utf8, blanked, encoded}
-use Rattle.text.proofs.Utf8Laws.{encoded_append, encoded_none}
+use Rattle.text.specs.Utf8Laws.{encoded_append, encoded_none}
 use Rattle.text.specs.Mapping.{singles_of, pairs_of, doubles_of, double_count, is_mapping, last_point, is_surrogate, is_point, double_base, is_value, lookup_in}
-use Rattle.text.proofs.MappingLaws.{drop_two, doubles_length, mapping_is}
+use Rattle.text.specs.MappingLaws.{drop_two, doubles_length, mapping_is}
 use Rattle.text.specs.Mapped.{replacement, value_in, pair_key, shift_jis, is_reserved, is_pair, values_of, value_points, points_byLists, mapped_points}
 use Rattle.text.proofs.MappedLaws.{replaced, points_at, value_point, lists, single_is, pair_is}
 use Rattle.text.specs.Element.{one_byte, two_bytes, element_of, HasPoints, value_text, mapped_text}

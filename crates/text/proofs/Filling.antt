@@ -7,7 +7,7 @@ use native.Mathlib.Omega.{arith}
 use lib.ListN.{length, take, drop, length-append, length-drop, length-take}
 use lib.Seq.{take-add, take-append_seam, take_all, drop-drop, drop_at, length-take-le}
 use Rattle.sectors.specs.Fill.{fill}
-use Rattle.sectors.proofs.FillLaws.{fill_none, fill_more, length_fill}
+use Rattle.sectors.specs.FillLaws.{fill_none, fill_more, length_fill}
 use Rattle.text.specs.Mapping.{singles_of, pairs_of, doubles_of}
 use Rattle.text.specs.Element.{element_of, value_text, mapped_text}
 use Rattle.text.proofs.ElementLaws.{size_step, text_step, text_end}

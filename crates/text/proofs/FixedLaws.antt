@@ -3,11 +3,11 @@ use Rattle.std.specs.Prelude.{ℕ, ◌≤◌, ◌≡◌, List, length, take, rep
 use Rattle.std.proofs.Common.{arith, sym, length-take, take_all}
 use Rattle.std.proofs.Math.Path.{refl, ap}
 use Rattle.text.specs.Padded.{padded}
-use Rattle.text.proofs.PaddedLaws.{TextIn, padded_held, padded_text}
+use Rattle.text.specs.PaddedLaws.{TextIn, padded_held, padded_text}
 use Rattle.text.specs.String.{until_zero}
 use Rattle.text.proofs.StringLaws.{until_length}
 use Rattle.text.specs.White.{trimmed}
-use Rattle.text.proofs.WhiteLaws.{trimmed_length}
+use Rattle.text.specs.WhiteLaws.{trimmed_length}
 use Rattle.text.specs.Fixed.{field_size, field_text, fixed_of, fixed_bytes_of, fixed_text_of}
 
 -- a field of at most 16 bytes is whole: its text ends before its first zero

@@ -3,7 +3,7 @@ use Rattle.std.specs.Prelude.{◌≡◌, Bool, true, false, List, ℕ, ◌+◌, 
 use Rattle.std.proofs.Math.Path.{refl}
 use Rattle.std.proofs.Common.{sym, arith, ltb-true, ltb-false}
 use Rattle.text.specs.Mapping.{found, not_found, lookup_in, Rising}
-use Rattle.text.proofs.MappingLaws.{lookup_at, lookup_none}
+use Rattle.text.specs.MappingLaws.{lookup_at, lookup_none}
 
 -- the entries among which the key may stand
 pub record Bracket (entries : List ℕ) (key base size : ℕ) : Type 0 where

@@ -8,7 +8,7 @@ use lib.ListN.{length, get_or, take}
 use lib.Seq.{take-suc, take_all}
 use Rattle.text.specs.While.{drop_while_end}
 use Rattle.text.specs.Padded.{padded}
-use Rattle.text.proofs.PaddedLaws.{padded_full}
+use Rattle.text.specs.PaddedLaws.{padded_full}
 use Rattle.text.specs.Language.{language_size, is_zero_orBlank, language_text, language_of}
 use Rattle.text.specs.declared.language.LanguageCode.{LanguageCode}
 use Rattle.text.proofs.Trimming.{end_more, end_stop, end_all}

@@ -10,16 +10,8 @@ pub mod Stores
 pub mod Tests
 pub mod Trimming
 pub mod Writing
-pub mod WhileLaws
-pub mod PaddedLaws
 pub mod StringLaws
-pub mod CharsetLaws
-pub mod Utf8Laws
-pub mod MappingLaws
-pub mod PartsLaws
 pub mod MappedLaws
 pub mod ElementLaws
 pub mod DecodeLaws
-pub mod WhiteLaws
 pub mod FixedLaws
-pub mod LanguageLaws

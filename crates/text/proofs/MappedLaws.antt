@@ -7,9 +7,9 @@ use mathlib.Core.List.{List, [], ◌∷◌, ◌++◌, flat_map}
 use Prim.Native.Nat.{ℕ, zero, suc, ◌+◌, ◌*◌, ◌-◌, ◌≤◌, ◌<◌}
 use Rattle.std.proofs.lemmas.Bool.{lt-leb}
 use Rattle.text.specs.Utf8.{encoded}
-use Rattle.text.proofs.Utf8Laws.{encoded_length}
+use Rattle.text.specs.Utf8Laws.{encoded_length}
 use Rattle.text.specs.Mapping.{singles_of, pairs_of, doubles_of, double_count, first_surrogate, last_point, is_surrogate, is_point, double_base, is_value, entries_sound, all_points, single_width, pair_width, lists_sound, is_mapping, Rising, found, not_found, lookup_in}
-use Rattle.text.proofs.MappingLaws.{sound_rising, sound_value, mapping_is}
+use Rattle.text.specs.MappingLaws.{sound_rising, sound_value, mapping_is}
 use Rattle.text.specs.Mapped.{replacement, value_in, pair_key, shift_jis, is_reserved, is_pair, values_of, value_points, points_byLists, mapped_points}
 use Rattle.text.specs.declared.lookup.Found.{Found}
 

@@ -6,8 +6,8 @@ use native.Mathlib.Nat.{sub-zero, suc-sub-suc, zero-sub}
 use native.Mathlib.Omega.{arith}
 use lib.ListN.{length, drop, replicate, length-replicate}
 use Rattle.sectors.specs.Fill.{copy_into}
-use Rattle.sectors.proofs.FillLaws.{fill_front}
-use Rattle.sectors.proofs.CopyLaws.{copy_whole}
+use Rattle.sectors.specs.FillLaws.{fill_front}
+use Rattle.sectors.specs.CopyLaws.{copy_whole}
 use Rattle.text.specs.Padded.{padded}
 
 drop_replicate : (n i a : ℕ) → drop i (replicate n a) ≡ replicate (n - i) a

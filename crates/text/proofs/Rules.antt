@@ -1,7 +1,7 @@
 -- Laws that proofs of functions use together. Assumes nothing.
-use Rattle.text.proofs.Utf8Laws.{utf8_one, utf8_two, utf8_three, utf8_four}
+use Rattle.text.specs.Utf8Laws.{utf8_one, utf8_two, utf8_three, utf8_four}
 use Rattle.text.proofs.DecodeLaws.{absent_is, present_is, answer_none, page_none, mapped_none, mapped_bad, mapped_good, answer_short, answer_fits, page_short, page_fits}
-use Rattle.text.proofs.WhileLaws.{while_front, while_length}
+use Rattle.text.specs.WhileLaws.{while_front, while_length}
 use Rattle.text.proofs.ElementLaws.{element_last, element_pair, element_reserved, element_one}
 use Rattle.text.proofs.Ascii.{stored_ascii, stored_until}
 

@@ -5,7 +5,7 @@ use Prim.Native.Nat.{ℕ, ◌+◌, ◌≤◌}
 use lib.ListN.{length}
 use lib.Seq.{sets}
 use Rattle.sectors.specs.Fill.{fill}
-use Rattle.sectors.proofs.FillLaws.{sets_fill}
+use Rattle.sectors.specs.FillLaws.{sets_fill}
 use Rattle.text.specs.Utf8.{utf8}
 
 -- bytes that are a code point's, stored one after another

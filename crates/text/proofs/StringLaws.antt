@@ -8,9 +8,9 @@ use Rattle.std.proofs.Math.Decide.{ℕ_discrete}
 use borrow.Author.Tests.{eqb-true, eqb-false, eq-eqb, ne_eqb, not-true, not-false, lt-ltb, le-ltb, ltb-true, ltb-false}
 use Rattle.std.proofs.Math.ListN.{length, get_or, get_or-eq_default}
 use Rattle.sectors.specs.Fill.{part}
-use Rattle.sectors.proofs.FillLaws.{part_past, part_size, part_at, take_part}
+use Rattle.sectors.specs.FillLaws.{part_past, part_size, part_at, take_part}
 use Rattle.text.specs.While.{take_while}
-use Rattle.text.proofs.WhileLaws.{front_taken, while_front, while_length, while_passes, while_stops}
+use Rattle.text.specs.WhileLaws.{front_taken, while_front, while_length, while_passes, while_stops}
 use Rattle.text.specs.String.{nonzero, until_zero, max_string_bytes, string_at, ended_byZero_byte, ended_byMax_bytes, ended_byTable_end, end_by, end_of, present, placed_string}
 
 module _ (b : ℕ) where

@@ -8,9 +8,9 @@ use native.Mathlib.Omega.{arith}
 use lib.ListN.{length, get_or, set, take, length-append, length-map}
 use lib.Seq.{take-suc, length-take-le}
 use Rattle.sectors.specs.Fill.{fill}
-use Rattle.sectors.proofs.FillLaws.{fill_more, fill_one, length_fill}
+use Rattle.sectors.specs.FillLaws.{fill_more, fill_one, length_fill}
 use Rattle.text.specs.Utf8.{utf8, blanked, encoded}
-use Rattle.text.proofs.Utf8Laws.{encoded_snoc}
+use Rattle.text.specs.Utf8Laws.{encoded_snoc}
 
 -- the front of a list, and the next element
 pub take_next : (l : List ℕ) (i : ℕ) → i < length l → take (i + 1) l ≡ take i l ++ (get_or l i 0 ∷ [])

@@ -13,3 +13,11 @@ pub mod Decode
 pub mod White
 pub mod Fixed
 pub mod Language
+pub mod CharsetLaws
+pub mod LanguageLaws
+pub mod MappingLaws
+pub mod PaddedLaws
+pub mod PartsLaws
+pub mod Utf8Laws
+pub mod WhileLaws
+pub mod WhiteLaws

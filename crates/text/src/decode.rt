@@ -37,7 +37,7 @@ fn is_ascii(bytes: &[u8]) -> bool
 
 // How many bytes the UTF-8 of a Latin-1 string has: one for a byte below hexadecimal 80, two for another. Of one that is known
 // to be ASCII no byte is looked at.
-#[tactic(auto, using(crate::proofs::Ascii::ascii_length, crate::proofs::Writing::take_next, crate::proofs::Writing::next_length, crate::proofs::Utf8Laws::latin1_size, crate::proofs::Utf8Laws::encoded_none))]
+#[tactic(auto, using(crate::proofs::Ascii::ascii_length, crate::proofs::Writing::take_next, crate::proofs::Writing::next_length, crate::specs::Utf8Laws::latin1_size, crate::specs::Utf8Laws::encoded_none))]
 fn latin1_length(bytes: &[u8], ascii: bool) -> usize
     requires { ascii ≡ true → is_ascii bytes.now ≡ true }
     ensures { result ≡ length (encoded bytes.now) }
@@ -55,7 +55,7 @@ fn latin1_length(bytes: &[u8], ascii: bool) -> usize
 }
 
 // Writes an ASCII string to the start of a page.
-#[tactic(auto, using(crate::proofs::Writing::byte_written, crate::proofs::Utf8Laws::blanked_below, sectors::proofs::FillLaws::fill_none))]
+#[tactic(auto, using(crate::proofs::Writing::byte_written, crate::specs::Utf8Laws::blanked_below, sectors::specs::FillLaws::fill_none))]
 fn put_ascii(bytes: &[u8], page: &mut [u8])
     requires { length bytes.now ≤ length page.old }
     ensures { page.new ≡ fill 0 (map blanked bytes.now) page.old }
@@ -68,7 +68,7 @@ fn put_ascii(bytes: &[u8], page: &mut [u8])
 }
 
 // Writes a Latin-1 string to the start of a page.
-#[tactic(auto, using(crate::proofs::Utf8Laws::encoded_none, sectors::proofs::FillLaws::fill_none))]
+#[tactic(auto, using(crate::specs::Utf8Laws::encoded_none, sectors::specs::FillLaws::fill_none))]
 fn put_latin1(bytes: &[u8], page: &mut [u8])
     requires { length (encoded bytes.now) ≤ length page.old }
     ensures { page.new ≡ fill 0 (encoded bytes.now) page.old }
@@ -82,7 +82,7 @@ fn put_latin1(bytes: &[u8], page: &mut [u8])
 }
 
 // Decodes Latin-1, in which each byte is its own code point; the caller may know that they are ASCII.
-#[tactic(auto, using(crate::proofs::Utf8Laws::encoded_same, crate::proofs::Rules::in_page), unfolding(crate::specs::Decode::giving, crate::specs::Decode::refusing))]
+#[tactic(auto, using(crate::specs::Utf8Laws::encoded_same, crate::proofs::Rules::in_page), unfolding(crate::specs::Decode::giving, crate::specs::Decode::refusing))]
 pub(crate) fn decode_latin1(bytes: &[u8], ascii: bool, page: &mut [u8]) -> DecodeAnswer
     requires { ascii ≡ true → is_ascii bytes.now ≡ true }
     ensures answer { result ≡ answer_in (length page.old) (gives bytes.now) }

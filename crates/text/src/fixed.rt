@@ -19,7 +19,7 @@ pub struct FixedText {
 }
 
 // The bytes of a field up to the first zero byte, as a part of the field; of a longer field the first 16 count.
-#[tactic(auto, using(crate::proofs::StringLaws::until_taken, sectors::proofs::FillLaws::take_cut), unfolding(crate::specs::Fixed::field_text))]
+#[tactic(auto, using(crate::proofs::StringLaws::until_taken, sectors::specs::FillLaws::take_cut), unfolding(crate::specs::Fixed::field_text))]
 fn field_text<'a>(field: &'a [u8]) -> &'a [u8]
     ensures { result.now ≡ field_text field.now }
 {

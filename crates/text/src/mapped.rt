@@ -16,7 +16,7 @@ use crate::utf8::put_character;
 const MOST_BYTES: usize = 8;
 
 // How many bytes the UTF-8 of a character has.
-#[tactic(auto, using(crate::proofs::Rules::utf8_sizes, crate::proofs::Utf8Laws::blanked_below, crate::proofs::Utf8Laws::blanked_high))]
+#[tactic(auto, using(crate::proofs::Rules::utf8_sizes, crate::specs::Utf8Laws::blanked_below, crate::specs::Utf8Laws::blanked_high))]
 fn point_length(point: u32) -> usize
     ensures { result ≡ length (utf8 (blanked point)) }
 {
@@ -33,7 +33,7 @@ fn point_length(point: u32) -> usize
 }
 
 // How many bytes the text of a value has.
-#[tactic(auto, using(std::proofs::lemmas::Grind::common_steps, crate::proofs::ElementLaws::value_one, crate::proofs::ElementLaws::value_two, crate::proofs::Utf8Laws::utf8_length))]
+#[tactic(auto, using(std::proofs::lemmas::Grind::common_steps, crate::proofs::ElementLaws::value_one, crate::proofs::ElementLaws::value_two, crate::specs::Utf8Laws::utf8_length))]
 fn value_length(doubles: &[u32], value: u32) -> usize
     requires { HasPoints doubles.now value }
     ensures { result ≡ length (value_text doubles.now value) }
@@ -61,7 +61,7 @@ fn put_value(page: &mut [u8], at: usize, doubles: &[u32], value: u32) -> usize
 }
 
 // Whether the text of a string has at most so many bytes: what is left of them is counted down.
-#[tactic(auto, using(crate::proofs::PartsLaws::mapping_whole_at))]
+#[tactic(auto, using(crate::specs::PartsLaws::mapping_whole_at))]
 fn fits(bytes: &[u8], set: u8, words: &[u32], parts: Parts, room: usize) -> bool
     requires { MappingAt words.now parts }
     ensures { result ≡ leb (length (mapped_text words.now set bytes.now)) room }
@@ -96,7 +96,7 @@ fn has_room(bytes: &[u8], set: u8, words: &[u32], parts: Parts, room: usize) -> 
 }
 
 // Writes the text of a string to the start of a page; answers how many bytes it has.
-#[tactic(auto, using(crate::proofs::PartsLaws::mapping_whole_at))]
+#[tactic(auto, using(crate::specs::PartsLaws::mapping_whole_at))]
 fn put_mapped(bytes: &[u8], set: u8, words: &[u32], parts: Parts, page: &mut [u8]) -> usize
     requires { MappingAt words.now parts × (length (mapped_text words.now set bytes.now) ≤ length page.old) }
     ensures filled { page.new ≡ fill 0 (mapped_text words.now set bytes.now) page.old }

@@ -50,7 +50,7 @@ fn is_value(count: u32, value: u32) -> bool
 }
 
 // Whether entries have keys that rise and are below a width, and values of a mapping with so many doubles; every entry is looked at.
-#[tactic(auto, using(crate::proofs::MappingLaws::above_is, crate::proofs::MappingLaws::sound_start, crate::proofs::MappingLaws::sound_next, crate::proofs::MappingLaws::sound_end))]
+#[tactic(auto, using(crate::specs::MappingLaws::above_is, crate::specs::MappingLaws::sound_start, crate::specs::MappingLaws::sound_next, crate::specs::MappingLaws::sound_end))]
 fn entries_sound(entries: &[u32], width: u32, count: u32) -> bool
     ensures { result ≡ entries_sound width count 0 entries.now }
 {
@@ -70,7 +70,7 @@ fn entries_sound(entries: &[u32], width: u32, count: u32) -> bool
 }
 
 // Whether every word is a code point; every word is looked at.
-#[tactic(auto, using(crate::proofs::MappingLaws::points_next, crate::proofs::MappingLaws::points_end))]
+#[tactic(auto, using(crate::specs::MappingLaws::points_next, crate::specs::MappingLaws::points_end))]
 fn all_points(words: &[u32]) -> bool
     ensures { result ≡ all_points words.now }
 {
@@ -93,7 +93,7 @@ fn behind_entries(words: &[u32], at: usize) -> usize
 }
 
 // Where the parts of words stand.
-#[tactic(auto, using(crate::proofs::PartsLaws::parts_cut, crate::proofs::PartsLaws::parts_whole, crate::proofs::MappingLaws::whole_none, crate::proofs::MappingLaws::whole_singles, crate::proofs::MappingLaws::whole_pairs, crate::proofs::MappingLaws::whole_left, crate::proofs::MappingLaws::whole_all), unfolding(crate::specs::Parts::not_whole, crate::specs::Mapping::pairs_at, crate::specs::Mapping::doubles_at, crate::specs::Mapping::words_end, crate::specs::Mapping::double_count, crate::specs::Mapping::count_at))]
+#[tactic(auto, using(crate::specs::PartsLaws::parts_cut, crate::specs::PartsLaws::parts_whole, crate::specs::MappingLaws::whole_none, crate::specs::MappingLaws::whole_singles, crate::specs::MappingLaws::whole_pairs, crate::specs::MappingLaws::whole_left, crate::specs::MappingLaws::whole_all), unfolding(crate::specs::Parts::not_whole, crate::specs::Mapping::pairs_at, crate::specs::Mapping::doubles_at, crate::specs::Mapping::words_end, crate::specs::Mapping::double_count, crate::specs::Mapping::count_at))]
 pub(crate) fn parts_of(words: &[u32]) -> Parts
     ensures { result ≡ parts_of words.now }
 {
@@ -120,7 +120,7 @@ pub(crate) fn parts_of(words: &[u32]) -> Parts
 }
 
 // The entries between the place of their count and their end.
-#[tactic(auto, using(sectors::proofs::FillLaws::slice_part), unfolding(crate::specs::Mapping::entries_at, crate::specs::Mapping::behind))]
+#[tactic(auto, using(sectors::specs::FillLaws::slice_part), unfolding(crate::specs::Mapping::entries_at, crate::specs::Mapping::behind))]
 fn entries_at<'a>(words: &'a [u32], at: usize, end: usize) -> &'a [u32]
     requires { (end ≡ behind words.now at) × (end ≤ length words.now) }
     ensures { result.now ≡ entries_at words.now at }
@@ -138,7 +138,7 @@ pub(crate) fn singles_of<'a>(words: &'a [u32], parts: Parts) -> &'a [u32]
     entries_at(words, 0, parts.pairs_at)
 }
 
-#[tactic(auto, using(crate::proofs::PartsLaws::parts_places), unfolding(crate::specs::Mapping::pairs_of))]
+#[tactic(auto, using(crate::specs::PartsLaws::parts_places), unfolding(crate::specs::Mapping::pairs_of))]
 pub(crate) fn pairs_of<'a>(words: &'a [u32], parts: Parts) -> &'a [u32]
     requires { WholeAt words.now parts }
     ensures { result.now ≡ pairs_of words.now }
@@ -146,7 +146,7 @@ pub(crate) fn pairs_of<'a>(words: &'a [u32], parts: Parts) -> &'a [u32]
     entries_at(words, parts.pairs_at, parts.doubles_at)
 }
 
-#[tactic(auto, using(crate::proofs::PartsLaws::parts_ends))]
+#[tactic(auto, using(crate::specs::PartsLaws::parts_ends))]
 pub(crate) fn doubles_of<'a>(words: &'a [u32], parts: Parts) -> &'a [u32]
     requires { WholeAt words.now parts }
     ensures { result.now ≡ doubles_of words.now }
@@ -155,7 +155,7 @@ pub(crate) fn doubles_of<'a>(words: &'a [u32], parts: Parts) -> &'a [u32]
 }
 
 // Whether words are a mapping, by where their parts stand.
-#[tactic(auto, using(crate::proofs::MappingLaws::mapping_cut, crate::proofs::PartsLaws::parts_say))]
+#[tactic(auto, using(crate::specs::MappingLaws::mapping_cut, crate::specs::PartsLaws::parts_say))]
 pub(crate) fn is_mapping(words: &[u32], parts: Parts) -> bool
     requires { parts ≡ parts_of words.now }
     ensures { result ≡ is_mapping words.now }

@@ -20,7 +20,7 @@ fn is_stored_ascii(b: u8) -> bool
 }
 
 // How many bytes stand before the first that is zero or not ASCII; all, if there is none.
-#[tactic(auto, using(crate::proofs::WhileLaws::scan_start, crate::proofs::WhileLaws::scan_more, crate::proofs::WhileLaws::scan_stop, crate::proofs::WhileLaws::scan_end))]
+#[tactic(auto, using(crate::specs::WhileLaws::scan_start, crate::specs::WhileLaws::scan_more, crate::specs::WhileLaws::scan_stop, crate::specs::WhileLaws::scan_end))]
 fn ascii_in(bytes: &[u8]) -> usize
     ensures { result ≡ length (take_while is_stored_ascii bytes.now) }
 {
@@ -36,7 +36,7 @@ fn ascii_in(bytes: &[u8]) -> usize
 
 // Decodes the string at a place of a table. In Latin-1 the end of an ASCII string is found in one pass; one that is not ASCII is sought anew.
 // The mapping is lent on as a part, and its answer given field by field: so neither is copied whole where the set is Latin-1.
-#[tactic(auto, using(std::proofs::lemmas::Grind::common_steps, crate::proofs::DecodeLaws::points_other, crate::proofs::DecodeLaws::points_held, crate::proofs::Rules::ascii_front, sectors::proofs::NumberLaws::be_byte), unfolding(crate::specs::Decode::decode_of, crate::specs::Decode::decode_into, crate::specs::String::string_at))]
+#[tactic(auto, using(std::proofs::lemmas::Grind::common_steps, crate::proofs::DecodeLaws::points_other, crate::proofs::DecodeLaws::points_held, crate::proofs::Rules::ascii_front, sectors::specs::NumberLaws::be_byte), unfolding(crate::specs::Decode::decode_of, crate::specs::Decode::decode_into, crate::specs::String::string_at))]
 fn decode_stored(
     table: &[u8],
     place: usize,

@@ -14,7 +14,7 @@ pub const ENDED_BY_MAX_BYTES: u8 = 2;
 pub const ENDED_BY_TABLE_END: u8 = 3;
 
 // How many bytes stand before the first zero byte; all, if there is none.
-#[tactic(auto, using(crate::proofs::WhileLaws::scan_more, crate::proofs::WhileLaws::scan_stop, crate::proofs::WhileLaws::scan_end, crate::proofs::StringLaws::ne_nonzero, crate::proofs::StringLaws::eq_nonzero), unfolding(crate::specs::String::until_zero))]
+#[tactic(auto, using(crate::specs::WhileLaws::scan_more, crate::specs::WhileLaws::scan_stop, crate::specs::WhileLaws::scan_end, crate::proofs::StringLaws::ne_nonzero, crate::proofs::StringLaws::eq_nonzero), unfolding(crate::specs::String::until_zero))]
 pub(crate) fn zero_in(bytes: &[u8]) -> usize
     ensures { result ≡ length (until_zero bytes.now) }
 {
@@ -36,7 +36,7 @@ pub(crate) fn lesser(a: usize, b: usize) -> usize
 }
 
 // The bytes that the string at a place can have, as a part of the table.
-#[tactic(auto, using(sectors::proofs::FillLaws::slice_part, sectors::proofs::FillLaws::part_cut, sectors::proofs::FillLaws::part_from, sectors::proofs::FillLaws::slice_start), unfolding(crate::specs::String::string_start))]
+#[tactic(auto, using(sectors::specs::FillLaws::slice_part, sectors::specs::FillLaws::part_cut, sectors::specs::FillLaws::part_from, sectors::specs::FillLaws::slice_start), unfolding(crate::specs::String::string_start))]
 pub(crate) fn string_window<'a>(table: &'a [u8], place: usize) -> &'a [u8]
     ensures bytes { result.now ≡ part place max_string_bytes table.now }
     ensures placed { result.ref_ptr ≡ start_at table.entry.ref_ptr (string_start table.now place) }

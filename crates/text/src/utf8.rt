@@ -43,7 +43,7 @@ fn put_utf8(page: &mut [u8], at: usize, point: u32) -> usize
 }
 
 // The same of a character of a text: a blank in place of a code point below 32.
-#[tactic(auto, using(crate::proofs::Utf8Laws::blanked_below))]
+#[tactic(auto, using(crate::specs::Utf8Laws::blanked_below))]
 pub(crate) fn put_character(page: &mut [u8], at: usize, point: u32) -> usize
     requires { (at + length (utf8 (blanked point)) ≤ length page.old) × (point < 0x110000) }
     ensures { (page.new ≡ fill at (utf8 (blanked point)) page.old) × (result ≡ at + length (utf8 (blanked point))) }

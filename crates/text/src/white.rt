@@ -12,7 +12,7 @@ fn is_w(b: u8) -> bool
 }
 
 // Where the white space at the start ends.
-#[tactic(auto, using(crate::proofs::WhileLaws::scan_more, crate::proofs::WhileLaws::scan_stop, crate::proofs::WhileLaws::scan_end))]
+#[tactic(auto, using(crate::specs::WhileLaws::scan_more, crate::specs::WhileLaws::scan_stop, crate::specs::WhileLaws::scan_end))]
 fn white_start(bytes: &[u8]) -> usize
     ensures { result ≡ length (take_while is_white bytes.now) }
 {
@@ -42,7 +42,7 @@ fn white_end(bytes: &[u8]) -> usize
 }
 
 // Bytes without the white space at both ends, as a part of them.
-#[tactic(auto, using(crate::proofs::WhileLaws::while_length, crate::proofs::WhileLaws::drop_while_end_front))]
+#[tactic(auto, using(crate::specs::WhileLaws::while_length, crate::specs::WhileLaws::drop_while_end_front))]
 pub(crate) fn trim<'a>(bytes: &'a [u8]) -> &'a [u8]
     ensures { result.now ≡ trimmed bytes.now }
 {

@@ -6,8 +6,8 @@ use mathlib.Core.List.{List, [], ◌∷◌, flat_map}
 use Rattle.std.proofs.lemmas.Bool.{not-true}
 use Rattle.sectors.specs.Audit.{header_size, verdict_of}
 use Rattle.sectors.specs.Bytes.{same}
-use Rattle.sectors.proofs.BytesLaws.{same_eq}
-use Rattle.sectors.proofs.CheckLaws.{fails}
+use Rattle.sectors.specs.BytesLaws.{same_eq}
+use Rattle.sectors.specs.CheckLaws.{fails}
 use Rattle.sectors.specs.Field.{◌⊕◌, times_alpha}
 use Rattle.sectors.specs.Fill.{fill}
 use Rattle.sectors.specs.Header.{SixBytes, at_one, at_alpha, is_multiple, is_blank, is_sound}

@@ -1,6 +1,6 @@
 -- `scarletbook::scarletbook_audit` meets its contract: the numbers are those of the audit's answer, and mean what the law of the verdicts says.
 use Rattle.std.proofs.Common.{◌∙◌, arith}
-use Rattle.sectors.specs.AuditLaws.{verdict_means}
+use Rattle.sectors.proofs.AuditLaws.{verdict_means}
 use Rattle.scarletbook.proofs.scarletbook_audit.Goals as goal
 
 pub returns : goal.returns

@@ -3,10 +3,10 @@
 use Rattle.std.proofs.Common.{◌≡◌, ℕ, zero, suc, ◌+◌, ◌-◌, ◌<◌, ◌≤◌, true, cond, ltb, List, length, arith}
 use Rattle.std.proofs.lemmas.Bool.Decides.{nat_tests}
 use Rattle.sectors.specs.Number.{be_at}
-use Rattle.sectors.proofs.NumberLaws.{be_byte}
+use Rattle.sectors.specs.NumberLaws.{be_byte}
 use Rattle.text.specs.String.{string_at}
 use Rattle.area.specs.Items.{next_item, draw_at}
-use Rattle.area.proofs.ItemLaws.{draw_item}
+use Rattle.area.specs.ItemLaws.{draw_item}
 use Rattle.area.proofs.items.draw_at.Goals as goal
 
 -- with its two bytes there, the item is drawn, where some are left

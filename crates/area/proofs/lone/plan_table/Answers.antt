@@ -4,10 +4,10 @@ use Rattle.std.proofs.Math.ListN.{length-map}
 use Rattle.std.proofs.Math.Nat.{zero-add}
 use Rattle.std.proofs.Math.Seq.{sets}
 use Rattle.sectors.specs.Fill.{fill}
-use Rattle.sectors.proofs.FillLaws.{sets_fill}
-use Rattle.area.proofs.TestLaws.{or_right}
+use Rattle.sectors.specs.FillLaws.{sets_fill}
+use Rattle.area.specs.TestLaws.{or_right}
 use Rattle.area.specs.Lent.{counted}
-use Rattle.area.proofs.LentLaws.{counted_all}
+use Rattle.area.specs.LentLaws.{counted_all}
 use Rattle.area.specs.Limits.{max_tracks, table_bytes}
 use Rattle.area.specs.Warning.{word_of}
 use Rattle.area.specs.Table.{head_of, head_warnings}

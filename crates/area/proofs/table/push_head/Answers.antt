@@ -3,7 +3,7 @@ use Rattle.std.proofs.Common.{◌≡◌, ℕ, refl, subst, Bool, true, false, Li
 use Rattle.std.proofs.Math.Bool.{cond, not, ◌&&◌}
 use Rattle.std.proofs.Math.Dec.{eqb}
 use Rattle.area.specs.Lent.{when_true}
-use Rattle.area.proofs.LentLaws.{Pushed, pushed_then}
+use Rattle.area.specs.LentLaws.{Pushed, pushed_then}
 use Rattle.area.specs.Table.{of_slot, frequency_warnings, head_warnings}
 use Rattle.area.specs.Warning.{word_of}
 use Rattle.area.specs.declared.table.TableHead.{TableHead}

@@ -1,7 +1,7 @@
 -- The four runs of words are one.
 use Rattle.std.proofs.Common.{◌≡◌, ℕ, subst, Bool, List}
 use Rattle.area.specs.Lent.{when_true}
-use Rattle.area.proofs.LentLaws.{Pushed, pushed_then}
+use Rattle.area.specs.LentLaws.{Pushed, pushed_then}
 use Rattle.area.specs.Table.{of_track, track_warnings}
 use Rattle.area.specs.Warning.{word_of}
 use Rattle.area.specs.declared.warning.Warning.{Warning}

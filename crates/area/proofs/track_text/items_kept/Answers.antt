@@ -1,7 +1,7 @@
 -- Where the arms of a turn meet, its item is kept over those before it; the search for the next item leaves the items that are left as they are.
 use Rattle.std.proofs.Common.{◌≡◌, ◌<◌, ◌+◌, length, slice_index_or, refl, ◌∙◌, arith}
 use Rattle.area.specs.Items.{Item}
-use Rattle.area.proofs.ItemLaws.{items_short}
+use Rattle.area.specs.ItemLaws.{items_short}
 use Rattle.area.proofs.TextPlaceLaws.{placed_text_lem}
 use Rattle.area.specs.TrackText.{no_places, no_items, keep, items_kept}
 use Rattle.area.specs.declared.track_text.ItemsKept.{ItemsKept}

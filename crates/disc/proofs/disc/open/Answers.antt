@@ -4,20 +4,20 @@ use Rattle.std.proofs.Common.{sym, ap, ◌∙◌, arith, zero-add}
 use Rattle.std.proofs.lemmas.List.{length-map}
 use Rattle.std.proofs.lemmas.List.Edits.{sets}
 use Rattle.sectors.specs.Fill.{part, fill}
-use Rattle.sectors.proofs.FillLaws.{sets_fill}
+use Rattle.sectors.specs.FillLaws.{sets_fill}
 use Rattle.sectors.specs.Sector.{run_data}
 use Rattle.sectors.specs.Source.{Source, image_source}
 use Rattle.sectors.proofs.SourceLaws.{image_sized}
 use Rattle.area.specs.Lent.{counted}
-use Rattle.area.proofs.LentLaws.{counted_all}
+use Rattle.area.specs.LentLaws.{counted_all}
 use Rattle.area.specs.Warning.{word_of}
 use Rattle.area.specs.declared.warning.Warning.{Warning}
 use Rattle.disc.specs.Copies.{no_copies}
 use Rattle.disc.specs.Disc.{Master, refused, reads, master_copies_differ, disc_warnings}
-use Rattle.disc.proofs.FetchFillLaws.{master_length}
-use Rattle.disc.proofs.FetchLaws.{opens}
+use Rattle.disc.specs.FetchFillLaws.{master_length}
+use Rattle.disc.specs.FetchLaws.{opens}
 use Rattle.disc.specs.Master.{master_lsn, master_sectors, master_bytes}
-use Rattle.disc.proofs.RegionLaws.{master_held}
+use Rattle.disc.specs.RegionLaws.{master_held}
 use Rattle.disc.specs.Slot.{master_region}
 use Rattle.disc.specs.Steps.{refusal_of, fetched_of, opened_of, opened_work, opened_words}
 use Rattle.disc.specs.WarningBounds.{disc_warnings_few}

@@ -1,7 +1,7 @@
 -- What is opened, read of both slots and answered is the reading of the disc.
 use Rattle.std.proofs.Common.{ap}
 use Rattle.disc.specs.Outcome.{Outcome}
-use Rattle.disc.proofs.StepLaws.{disc_read}
+use Rattle.disc.specs.StepLaws.{disc_read}
 use Rattle.disc.proofs.disc.read_disc.Goals as goal
 
 pub returns : goal.returns

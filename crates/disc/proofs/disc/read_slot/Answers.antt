@@ -1,5 +1,5 @@
 -- A slot's plan, and then its tracks from its region, are what is read of it.
-use Rattle.disc.proofs.StepLaws.{slot_read_by_lem}
+use Rattle.disc.specs.StepLaws.{slot_read_by_lem}
 use Rattle.disc.proofs.disc.read_slot.Goals as goal
 
 pub returns : goal.returns

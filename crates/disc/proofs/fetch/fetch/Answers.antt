@@ -8,7 +8,7 @@ use Rattle.sectors.specs.Source.{image_source}
 use Rattle.area.specs.Limits.{max_table_bytes}
 use Rattle.disc.specs.Copies.{copies_of, chosen, bytes_of}
 use Rattle.disc.specs.Disc.{master_copies_differ, copy_of, work_after}
-use Rattle.disc.proofs.FetchFillLaws.{there_known, master_length, fetched_master, fetched_master_length, fetched_master_region, fetched_length}
+use Rattle.disc.specs.FetchFillLaws.{there_known, master_length, fetched_master, fetched_master_length, fetched_master_region, fetched_length}
 use Rattle.disc.specs.Master.{master_lsn, master_sectors, master_bytes, pointer_of}
 use Rattle.disc.specs.Slot.{two_channel, multichannel, master_region, region_at, work_bytes}
 use Rattle.disc.specs.Steps.{fetched_of}

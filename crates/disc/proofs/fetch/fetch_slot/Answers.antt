@@ -2,13 +2,13 @@
 use Rattle.std.specs.Prelude.{◌≡◌, cond, ◌&&◌, ◌||◌}
 use Rattle.std.proofs.Common.{ap, ◌∙◌}
 use Rattle.sectors.specs.Fill.{part, fill}
-use Rattle.sectors.proofs.FillLaws.{slice_part}
+use Rattle.sectors.specs.FillLaws.{slice_part}
 use Rattle.sectors.specs.Run.{read_into}
 use Rattle.sectors.specs.Source.{image_source}
 use Rattle.area.specs.Limits.{max_table_bytes}
 use Rattle.disc.specs.Copies.{copies_of, chosen, bytes_of, chosen_lsn}
-use Rattle.disc.proofs.FetchFillLaws.{fetched_copy, fetched_differ}
-use Rattle.disc.proofs.FetchLaws.{first_readable_lem, second_readable_lem}
+use Rattle.disc.specs.FetchFillLaws.{fetched_copy, fetched_differ}
+use Rattle.disc.specs.FetchLaws.{first_readable_lem, second_readable_lem}
 use Rattle.disc.specs.Steps.{second_differs}
 use Rattle.disc.proofs.fetch.fetch_slot.Goals as goal
 

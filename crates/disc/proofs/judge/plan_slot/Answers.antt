@@ -4,7 +4,7 @@ use Rattle.std.proofs.Common.{ap, ◌∙◌}
 use Rattle.std.proofs.lemmas.List.{append-nil}
 use Rattle.std.proofs.lemmas.List.Edits.{sets}
 use Rattle.area.specs.Lent.{counted}
-use Rattle.area.proofs.LentLaws.{pushed_then}
+use Rattle.area.specs.LentLaws.{pushed_then}
 use Rattle.area.specs.Limits.{table_bytes}
 use Rattle.area.specs.Table.{head_of, no_head, head_warnings}
 use Rattle.area.specs.Warning.{word_of}

@@ -1,5 +1,5 @@
 -- What is written of the disc: three runs, each from where the one before is counted to, are one.
-use Rattle.area.proofs.LentLaws.{pushed_then}
+use Rattle.area.specs.LentLaws.{pushed_then}
 use Rattle.area.specs.Warning.{word_of}
 use Rattle.disc.specs.Disc.{of_disc, disc_warnings}
 use Rattle.disc.proofs.judge.push_disc.Goals as goal

@@ -1,5 +1,5 @@
 -- What is written of a slot's copies: four runs, each from where the one before is counted to, are one.
-use Rattle.area.proofs.LentLaws.{pushed_then}
+use Rattle.area.specs.LentLaws.{pushed_then}
 use Rattle.area.specs.Warning.{word_of}
 use Rattle.disc.specs.Copies.{served_warnings}
 use Rattle.disc.proofs.judge.push_unreadable.Goals as goal

@@ -7,12 +7,12 @@ use Rattle.sectors.specs.Format.{sector_size}
 use Rattle.area.specs.Limits.{max_tracks, table_bytes}
 use Rattle.area.specs.TestLaws.{or_left, or_right}
 use Rattle.area.specs.Warning.{word_of}
-use Rattle.area.specs.WarningLaws.{head_warnings_of, warnings_in_of}
+use Rattle.area.proofs.WarningLaws.{head_warnings_of, warnings_in_of}
 use Rattle.area.specs.Lone.{is_odd_table, lone_slot, lone_sectors, table_words}
 use Rattle.area.specs.Plan.{lone_head}
-use Rattle.area.specs.LoneLaws.{lone_sectors_lem, lone_bytes, lone_head_lem, lone_room, lone_skips, lone_yields}
+use Rattle.area.proofs.LoneLaws.{lone_sectors_lem, lone_bytes, lone_head_lem, lone_room, lone_skips, lone_yields}
 use Rattle.area.specs.Table.{head_of, head_warnings, tracks_in, warnings_in}
-use Rattle.area.specs.TableLaws.{track_count_few}
+use Rattle.area.proofs.TableLaws.{track_count_few}
 use Rattle.area.specs.declared.table.TableHead.{TableHead}
 use Rattle.area.specs.declared.warning.Warning.{Warning}
 use Rattle.listing_text.specs.Listing.{max_listed, sections_of, warning_of}

@@ -3,7 +3,7 @@ use Rattle.std.proofs.Common.{ℕ, ◌≤◌, List, ◌++◌, length, length-app
 use mathlib.Core.List.{map}
 use Rattle.area.specs.Lone.{lone_slot, table_words}
 use Rattle.area.specs.Table.{head_warnings, tracks_in, warnings_in}
-use Rattle.area.specs.TableLaws.{head_warnings_few, warnings_few}
+use Rattle.area.proofs.TableLaws.{head_warnings_few, warnings_few}
 use Rattle.area.specs.declared.table.TableHead.{TableHead}
 use Rattle.area.specs.declared.warning.Warning.{Warning}
 use Rattle.listing_text.specs.Listing.{locales_word, tracks_word, warnings_word, locale_line, track_line, warning_line, section, locales_of, sections_of, warning_of}

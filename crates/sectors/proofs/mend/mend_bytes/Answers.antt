@@ -2,7 +2,7 @@
 use Rattle.std.proofs.Common.{◌∙◌, arith}
 use Rattle.sectors.specs.Field.{◌⊕◌}
 use Rattle.sectors.specs.Mend.{mended_to, unmended}
-use Rattle.sectors.proofs.CopyLaws.{copy_over}
+use Rattle.sectors.specs.CopyLaws.{copy_over}
 use Rattle.sectors.proofs.HeaderCases.{known_six}
 use Rattle.sectors.proofs.Mending.{beyond_answer, changed_answer}
 use Rattle.sectors.proofs.mend.mend_bytes.Goals as goal

@@ -1,6 +1,6 @@
 -- A number of 4 bytes is split into two of 2.
 use Rattle.std.proofs.Common.{arith}
-use Rattle.sectors.proofs.NumberLaws.{be_split}
+use Rattle.sectors.specs.NumberLaws.{be_split}
 use Rattle.sectors.proofs.number.be32_at.Goals as goal
 
 pub returns : goal.returns

@@ -1,6 +1,6 @@
 -- After k turns the data of k sectors fill the buffer.
 use Rattle.std.proofs.Common.{◌∙◌, arith}
-use Rattle.sectors.proofs.CopyLaws.{copy_over}
+use Rattle.sectors.specs.CopyLaws.{copy_over}
 use Rattle.sectors.proofs.Turns.{address_bound, next_there, next_length, copy_turn}
 use Rattle.sectors.proofs.run.copy_run.Goals as goal
 

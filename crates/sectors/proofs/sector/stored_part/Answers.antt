@@ -1,7 +1,7 @@
 -- The part lies in the image, at its place.
 use Rattle.std.proofs.Common.{ℕ, ◌+◌, ◌*◌, ap, ◌∙◌, arith}
 use Rattle.sectors.specs.Fill.{start_at}
-use Rattle.sectors.proofs.FillLaws.{slice_start}
+use Rattle.sectors.specs.FillLaws.{slice_start}
 use Rattle.sectors.proofs.Places.{stored_is, part_inside, part_is}
 use Rattle.sectors.proofs.sector.stored_part.Goals as goal
 

@@ -1,6 +1,6 @@
 -- `tape::store::copy_image` meets its contract: after k turns the first k sectors are copied, and then the rest stands behind them.
 use Rattle.std.proofs.Common.{refl, ◌∙◌, arith, rules}
-use Rattle.tape.specs.StoreLaws.{whole_sectors}
+use Rattle.tape.proofs.StoreLaws.{whole_sectors}
 use Rattle.tape.proofs.Turns.{copy_start, copy_turn, accepts, refuses}
 use Rattle.tape.proofs.store.copy_image.Goals as goal
 

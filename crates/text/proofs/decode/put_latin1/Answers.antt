@@ -2,7 +2,7 @@
 use Rattle.std.proofs.Common.{ℕ, ◌+◌, ◌≤◌, ◌<◌, List, [], ◌∷◌, ◌++◌, length, get_or, take, sym, ap, ◌∙◌, arith}
 use Rattle.sectors.specs.Fill.{fill}
 use Rattle.text.specs.Utf8.{encoded}
-use Rattle.text.proofs.Utf8Laws.{encoded_front}
+use Rattle.text.specs.Utf8Laws.{encoded_front}
 use Rattle.text.proofs.Writing.{take_next, next_length, next_written}
 use Rattle.text.proofs.decode.put_latin1.Goals as goal
 

@@ -1,6 +1,6 @@
 -- The value at the byte's own place is the one found: keys rise.
 use Rattle.std.proofs.Common.{sym, arith}
-use Rattle.text.proofs.MappingLaws.{lookup_at}
+use Rattle.text.specs.MappingLaws.{lookup_at}
 use Rattle.text.proofs.MappedLaws.{value_found}
 use Rattle.text.proofs.element.single_value.Goals as goal
 

@@ -1,7 +1,7 @@
 -- Where one entry is left it has the key, or none has.
 use Rattle.std.proofs.Common.{sym, arith}
 use Rattle.text.specs.Mapping.{found, not_found}
-use Rattle.text.proofs.MappingLaws.{lookup_none}
+use Rattle.text.specs.MappingLaws.{lookup_none}
 use Rattle.text.proofs.Halving.{from, not_there, there}
 use Rattle.text.proofs.lookup.lookup.Goals as goal
 

@@ -1,7 +1,7 @@
 -- Of a double both code points are written, one behind the other.
 use Rattle.std.proofs.Common.{◌≡◌, ℕ, ◌+◌, ◌*◌, ◌-◌, ◌≤◌, List, length, get_or, sym, ap, ◌∙◌, arith, length-append}
 use Rattle.sectors.specs.Fill.{fill}
-use Rattle.sectors.proofs.FillLaws.{fill_more, length_fill}
+use Rattle.sectors.specs.FillLaws.{fill_more, length_fill}
 use Rattle.text.specs.Utf8.{utf8, blanked}
 use Rattle.text.specs.Mapping.{double_base}
 use Rattle.text.specs.Element.{value_text}

@@ -1,7 +1,7 @@
 -- The doubles end where the words do.
 use Rattle.std.proofs.Common.{ap, ◌∙◌}
 use Rattle.text.specs.Mapping.{entries_at, doubles_of}
-use Rattle.text.proofs.PartsLaws.{parts_places}
+use Rattle.text.specs.PartsLaws.{parts_places}
 use Rattle.text.proofs.mapping.doubles_of.Goals as goal
 
 pub returns : goal.returns

@@ -1,7 +1,7 @@
 -- Past the loop at most one word is left: no entry more.
 use Rattle.std.proofs.Common.{◌+◌, Bool, ◌&&◌, sym, ap, ◌∙◌, drop, length-drop, arith}
 use Rattle.std.proofs.Math.Bool.{and-true}
-use Rattle.text.proofs.MappingLaws.{sound_end}
+use Rattle.text.specs.MappingLaws.{sound_end}
 use Rattle.text.proofs.mapping.entries_sound.Goals as goal
 
 pub returns : goal.returns

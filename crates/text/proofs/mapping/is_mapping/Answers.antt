@@ -3,8 +3,8 @@ use Rattle.std.proofs.Common.{◌≡◌, true, sym, ◌∙◌}
 use Rattle.std.proofs.lemmas.Bool.{not-false}
 use Rattle.text.specs.Mapping.{is_whole, lists_sound}
 use Rattle.std.proofs.lemmas.Bool.{not-false}
-use Rattle.text.proofs.MappingLaws.{mapping_whole}
-use Rattle.text.proofs.PartsLaws.{parts_say, parts_places}
+use Rattle.text.specs.MappingLaws.{mapping_whole}
+use Rattle.text.specs.PartsLaws.{parts_say, parts_places}
 use Rattle.text.proofs.mapping.is_mapping.Goals as goal
 
 pub returns : goal.returns

@@ -1,5 +1,5 @@
 -- The pairs end where the count of doubles stands.
-use Rattle.text.proofs.PartsLaws.{parts_ends}
+use Rattle.text.specs.PartsLaws.{parts_ends}
 use Rattle.text.proofs.mapping.pairs_of.Goals as goal
 
 pub entries_at-requires : goal.entries_at-requires

@@ -1,5 +1,5 @@
 -- The singles end where the count of pairs stands.
-use Rattle.text.proofs.PartsLaws.{parts_ends}
+use Rattle.text.specs.PartsLaws.{parts_ends}
 use Rattle.text.proofs.mapping.singles_of.Goals as goal
 
 pub entries_at-requires : goal.entries_at-requires

@@ -2,7 +2,7 @@
 use Rattle.std.proofs.Common.{◌-◌, length}
 use Rattle.text.specs.Ascii.{is_stored_ascii}
 use Rattle.text.specs.While.{take_while}
-use Rattle.text.proofs.WhileLaws.{ScanEnds}
+use Rattle.text.specs.WhileLaws.{ScanEnds}
 use Rattle.text.proofs.stored.ascii_in.Given as goal
 
 abbrev pub invariant-loop-i : goal.invariant-loop-i

@@ -1,6 +1,6 @@
 -- `text::string::zero_in` scans for the first byte that is zero.
 use Rattle.std.proofs.Common.{length, ◌-◌}
-use Rattle.text.proofs.WhileLaws.{ScanEnds}
+use Rattle.text.specs.WhileLaws.{ScanEnds}
 use Rattle.text.specs.String.{nonzero, until_zero}
 use Rattle.text.proofs.string.zero_in.Given as goal
 

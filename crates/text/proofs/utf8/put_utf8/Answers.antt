@@ -1,7 +1,7 @@
 -- At each size, the bytes stored are those of the code point.
 use Rattle.std.proofs.Common.{sym, arith}
 use native.Mathlib.Numerals.{unary_clauses}
-use Rattle.text.proofs.Utf8Laws.{utf8_one, utf8_two, utf8_three, utf8_four}
+use Rattle.text.specs.Utf8Laws.{utf8_one, utf8_two, utf8_three, utf8_four}
 use Rattle.text.proofs.Stores.{stored}
 use Rattle.text.proofs.utf8.put_utf8.Goals as goal
 

@@ -2,7 +2,7 @@
 use Rattle.std.proofs.Common.{◌≡◌, ℕ, List, length, take, drop, sym, ap, ◌∙◌}
 use borrow.Author.Rules.{part_to_end}
 use Rattle.text.specs.While.{drop_while_end}
-use Rattle.text.proofs.WhileLaws.{front_taken, drop_while_rest, drop_while_end_length, drop_while_end_front}
+use Rattle.text.specs.WhileLaws.{front_taken, drop_while_rest, drop_while_end_length, drop_while_end_front}
 use Rattle.text.specs.White.{is_white, trimmed}
 use Rattle.text.proofs.white.trim.Goals as goal
 

@@ -1,7 +1,7 @@
 -- `text::white::white_start` scans for the first byte that is not white.
 use Rattle.std.proofs.Common.{length, ◌-◌}
 use Rattle.text.specs.While.{take_while}
-use Rattle.text.proofs.WhileLaws.{ScanEnds}
+use Rattle.text.specs.WhileLaws.{ScanEnds}
 use Rattle.text.specs.White.{is_white}
 use Rattle.text.proofs.white.white_start.Given as goal
 

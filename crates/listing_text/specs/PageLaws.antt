@@ -7,10 +7,10 @@ use mathlib.Core.List.Memᴰ
 use mathlib.Core.List.{List, [], ◌∷◌, flat_map, Memᴰ}
 use Rattle.std.proofs.lemmas.List.Edits.{sets}
 use Rattle.sectors.specs.Fill.{fill}
-use Rattle.sectors.proofs.FillLaws.{length_fill, sets_fill}
+use Rattle.sectors.specs.FillLaws.{length_fill, sets_fill}
 use Rattle.area.proofs.BoundLaws.{SmallLocale, SmallTrack, SmallWarning, Bounds, kept_bounded}
 use Rattle.area.specs.Lent.{counted}
-use Rattle.area.proofs.LentLaws.{counted_all, counted_within}
+use Rattle.area.specs.LentLaws.{counted_all, counted_within}
 use Rattle.area.specs.Limits.{max_tracks}
 use Rattle.area.specs.Lone.{is_odd_table, lone_of, lone_slot, lone_sectors, table_words, reads}
 use Rattle.area.proofs.LoneLaws.{lone_room, lone_reads}
@@ -18,17 +18,17 @@ use Rattle.area.specs.Refusal.{no_audio_areas, odd_table}
 use Rattle.area.specs.Skip.{skip_of}
 use Rattle.area.specs.Table.{area_at}
 use Rattle.area.proofs.TableLaws.{flat_few, head_skips, area_yields}
-use Rattle.area.proofs.TestLaws.{or_left, or_right}
+use Rattle.area.specs.TestLaws.{or_left, or_right}
 use Rattle.area.specs.declared.area.Area.{Area}
 use Rattle.area.specs.declared.locale.Locale.{Locale}
 use Rattle.area.specs.declared.track.Track.{Track}
 use Rattle.area.specs.declared.warning.Warning.{Warning}
 use Rattle.listing_text.specs.Decimal.{decimal}
-use Rattle.listing_text.proofs.DecimalLaws.{decimal_digit, decimal_more}
+use Rattle.listing_text.specs.DecimalLaws.{decimal_digit, decimal_more}
 use Rattle.listing_text.specs.Line.{next_field, line_of, word_line}
-use Rattle.listing_text.proofs.LineLaws.{line_of_three, line_of_five}
+use Rattle.listing_text.specs.LineLaws.{line_of_three, line_of_five}
 use Rattle.listing_text.specs.Listing.{locales_word, tracks_word, warnings_word, refused_word, section, locale_line, track_line, warning_line, locales_of, sections_of, refused_line, max_listed, listing_of}
-use Rattle.listing_text.proofs.ListingLaws.{listing_odd, listing_skipped, listing_yielded}
+use Rattle.listing_text.specs.ListingLaws.{listing_odd, listing_skipped, listing_yielded}
 
 -- the bytes of a page that has room for every listing
 abbrev pub listing_page : ℕ

@@ -8,7 +8,7 @@ use Rattle.std.proofs.Math.Bool.{true, false, and-eq-true_iff}
 use mathlib.Core.List.{List}
 use Rattle.sectors.specs.Bytes.{same}
 use Rattle.sectors.specs.Fill.{part, fill}
-use Rattle.sectors.proofs.FillLaws.{fill_none, length_fill, part_filled, part_length, take_part}
+use Rattle.sectors.specs.FillLaws.{fill_none, length_fill, part_filled, part_length, take_part}
 use Rattle.sectors.specs.Format.{foreign, sector_size}
 use Rattle.sectors.specs.Run.{read_into}
 use Rattle.sectors.proofs.RunLaws.{is_not_refused, read_fills}
@@ -18,8 +18,8 @@ use Rattle.sectors.specs.Source.{image_source}
 use Rattle.sectors.proofs.SourceLaws.{image_sized}
 use Rattle.area.specs.Limits.{max_table_bytes}
 use Rattle.disc.specs.Copies.{is_served, has_second, first_copy, second_copy, unequal, chosen, bytes_of, first_readable, second_readable, chosen_lsn}
-use Rattle.disc.proofs.CopyLaws.{served_few, chosen_fits}
-use Rattle.disc.proofs.FetchLaws.{chosen_bytes, chosen_no_bytes, copies_differ, run_differs_lem}
+use Rattle.disc.specs.CopyLaws.{served_few, chosen_fits}
+use Rattle.disc.specs.FetchLaws.{chosen_bytes, chosen_no_bytes, copies_differ, run_differs_lem}
 use Rattle.disc.specs.Master.{master_lsn, master_sectors, master_bytes}
 use Rattle.disc.specs.Slot.{master_region, work_bytes}
 use Rattle.disc.specs.Steps.{run_differs, second_differs}

@@ -10,7 +10,7 @@ use native.Mathlib.Omega.{arith}
 use Rattle.std.proofs.Math.ListN.{length, length-map}
 use Rattle.std.proofs.Math.Seq.{sets, length-sets}
 use Rattle.area.specs.Lent.{counted}
-use Rattle.area.proofs.LentLaws.{counted_all, counted_then, sets_counted, pushed_then}
+use Rattle.area.specs.LentLaws.{counted_all, counted_then, sets_counted, pushed_then}
 use Rattle.area.specs.Limits.{max_tracks}
 use Rattle.area.specs.Table as Area
 use Rattle.area.specs.Table.{Table}
@@ -20,7 +20,7 @@ use Rattle.area.specs.declared.table.TableHead.{TableHead}
 use Rattle.area.specs.declared.track.Track.{Track}
 use Rattle.area.specs.declared.warning.Warning.{Warning}
 use Rattle.sectors.specs.Fill.{fill, part}
-use Rattle.sectors.proofs.FillLaws.{sets_fill, length_fill}
+use Rattle.sectors.specs.FillLaws.{sets_fill, length_fill}
 use Rattle.sectors.specs.Sector.{sector_count, run_data}
 use Rattle.sectors.proofs.SectorLaws.{run_length}
 use Rattle.sectors.specs.Source.{Source, image_source}
@@ -31,16 +31,16 @@ use Rattle.disc.specs.Copies.{is_used, copies_of, copy_warnings, has_area, area_
 use Rattle.disc.specs.Outcome.{Memory, Outcome, is_present}
 use Rattle.disc.specs.Disc.{Master, refused, reads, image_master, master_copies_differ, disc_warnings, warnings_of, refusal, silent, accepted, answer_of, table_of, work_after, tracks_after, words_after, reading_of, outcome_of, read_disc}
 use Rattle.disc.specs.Steps.{refusal_of, opened_of, opened_work, opened_words, slot_head, plan_warnings, slot_plan_of, slot_tracks, slot_notes, slot_read_by, slot_read_of, read_answer, answer_by}
-use Rattle.disc.proofs.FetchLaws.{Opens, opens}
-use Rattle.disc.proofs.RegionLaws.{master_held}
-use Rattle.disc.proofs.SlotLaws.{slot_area, slot_present, slot_tracks_lem, slot_notes_lem}
+use Rattle.disc.specs.FetchLaws.{Opens, opens}
+use Rattle.disc.specs.RegionLaws.{master_held}
+use Rattle.disc.specs.SlotLaws.{slot_area, slot_present, slot_tracks_lem, slot_notes_lem}
 use Rattle.disc.specs.WarningBounds.{disc_warnings_few, warnings_fit}
 use Rattle.disc.specs.declared.answer.DiscAnswer.{DiscAnswer}
 use Rattle.disc.specs.declared.disc.Opened.{Opened}
 use Rattle.disc.specs.declared.copies.SlotCopies.{SlotCopies}
 use Rattle.disc.specs.declared.disc.SlotRead.{SlotRead}
 use Rattle.disc.specs.declared.judge.SlotPlan.{SlotPlan}
-use Rattle.disc.proofs.CopyLaws.{slot_tracks_few}
+use Rattle.disc.specs.CopyLaws.{slot_tracks_few}
 
 -- ---- a slot: its plan, then its tracks
 pub slot_read_by_lem : (work : List ℕ) (slot : ℕ) (c : SlotCopies) (words : List ℕ) (count : ℕ) (plan : SlotPlan) (noted : List ℕ) (n : ℕ) (tracks filled : List Track) (written : List ℕ) (read : SlotRead)

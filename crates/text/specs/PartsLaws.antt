@@ -4,7 +4,7 @@ use Rattle.std.proofs.Math.Path.{refl, sym, ap}
 use Rattle.std.proofs.Common.{◌∙◌, arith}
 use Rattle.std.proofs.Math.Bool.{true, false}
 use Rattle.text.specs.Mapping.{behind, singles_at, pairs_at, doubles_at, words_end, double_count, is_whole}
-use Rattle.text.proofs.MappingLaws.{whole_parts, mapping_is}
+use Rattle.text.specs.MappingLaws.{whole_parts, mapping_is}
 use Rattle.text.specs.Parts.{not_whole, parts_of, WholeAt, MappingAt}
 use Rattle.text.specs.declared.mapping.Parts.{Parts}
 

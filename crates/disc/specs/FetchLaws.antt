@@ -10,7 +10,7 @@ use Rattle.std.proofs.Math.Dec.{ltb, eqb}
 use Rattle.sectors.specs.Bytes.{same}
 use Rattle.sectors.specs.Fill.{part}
 use Rattle.sectors.specs.Format.{foreign, sector_size}
-use Rattle.sectors.proofs.NumberLaws.{be_part}
+use Rattle.sectors.specs.NumberLaws.{be_part}
 use Rattle.sectors.specs.Options.{only_if}
 use Rattle.sectors.specs.Refusal.{foreign_format, short_buffer}
 use Rattle.sectors.specs.Run.{read_refusal}
@@ -21,8 +21,8 @@ use Rattle.sectors.proofs.SignatureLaws.{signed_part}
 use Rattle.sectors.specs.Source.{image_source, run_of}
 use Rattle.sectors.proofs.SourceLaws.{image_run, image_no_run}
 use Rattle.sectors.specs.declared.run.Comparison.{Comparison}
-use Rattle.area.proofs.TestLaws.{or_left, or_right}
-use Rattle.disc.proofs.CopyLaws.{chosen_without}
+use Rattle.area.specs.TestLaws.{or_left, or_right}
+use Rattle.disc.specs.CopyLaws.{chosen_without}
 use Rattle.disc.specs.Copies.{is_served, has_second, first_copy, second_copy, is_there, unequal, Copy, chosen_of, chosen, bytes_of, first_readable, second_readable, chosen_lsn}
 use Rattle.disc.specs.Disc.{is_short, refused, reads, judged, master_in, image_master, second_master_lsn, third_master_lsn, is_unequal, master_copies_differ}
 use Rattle.disc.specs.Master.{master_lsn, master_sectors, master_bytes, master_signature, is_scarlet_book, major_version, is_newer}

@@ -3,13 +3,13 @@ use Rattle.std.specs.Prelude.{ℕ, ◌+◌, ◌≤◌, ◌≡◌, List, length}
 use Rattle.std.proofs.Common.{arith, sym, ◌∙◌}
 use Rattle.std.proofs.Math.Path.{ap}
 use Rattle.sectors.specs.Fill.{fill, part}
-use Rattle.sectors.proofs.FillLaws.{length_fill, part_filled, part_before, part_after}
+use Rattle.sectors.specs.FillLaws.{length_fill, part_filled, part_before, part_after}
 use Rattle.sectors.specs.Source.{Source, Sized}
 use Rattle.disc.specs.Copies.{chosen, bytes_of}
 use Rattle.disc.specs.Disc.{copy_of, work_after}
 use Rattle.disc.specs.Master.{master_bytes, pointer_of}
 use Rattle.disc.specs.Slot.{Slot, two_channel, multichannel, region_at, master_region, work_bytes}
-use Rattle.disc.proofs.CopyLaws.{chosen_fits}
+use Rattle.disc.specs.CopyLaws.{chosen_fits}
 
 module _ (source : Source) (sized : Sized source) (table work : List ℕ) (whole : length table ≡ master_bytes) (enough : work_bytes ≤ length work) where
   abbrev copy : Slot → List ℕ

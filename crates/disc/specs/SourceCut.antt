@@ -5,7 +5,7 @@ use Rattle.std.proofs.Math.Decide.{ℕ_discrete}
 use Rattle.std.proofs.Common.{arith, ◌∙◌}
 use Rattle.std.proofs.Math.Option.{Option, none, some}
 use Rattle.std.proofs.Math.Path.{refl, sym, ap}
-use Rattle.sectors.proofs.OptionLaws.{some_eq, no_some}
+use Rattle.sectors.specs.OptionLaws.{some_eq, no_some}
 use Rattle.sectors.specs.Options.{Known}
 use Rattle.sectors.specs.Source.{Source, Sized, run_of}
 use Rattle.sectors.proofs.SourceLaws.{run_parts, run_kept, run_known, run_of_length}
@@ -20,8 +20,8 @@ use Rattle.disc.specs.Copies.{Copy, chosen}
 use Rattle.disc.specs.Outcome.{Memory, Outcome, Yielded, slot_yields}
 use Rattle.disc.specs.Disc.{read_source}
 use Rattle.disc.specs.Demand3.{Place, Served, HasSecond, Names, the_first, the_second, first_place, second_place, EqualButAddress, yielded_by, area_from}
-use Rattle.disc.proofs.ChosenLaws.{place_of, chosen_first, chosen_second, chosen_none, chosen_unserved, chosen_named, chosen_there, names_sectors, yielded_in}
-use Rattle.disc.proofs.DiscLaws.{slot_yields_lem, master_back, silent_when, Passed, passed_read}
+use Rattle.disc.specs.ChosenLaws.{place_of, chosen_first, chosen_second, chosen_none, chosen_unserved, chosen_named, chosen_there, names_sectors, yielded_in}
+use Rattle.disc.specs.DiscLaws.{slot_yields_lem, master_back, silent_when, Passed, passed_read}
 use Rattle.disc.specs.declared.master.AreaPointer.{AreaPointer}
 
 -- ---- a copy that is moved: its area's record has the other address

@@ -3,14 +3,14 @@ use Rattle.std.specs.Prelude.{◌≡◌, Bool, true, false, cond, ◌||◌, List
 use Rattle.std.proofs.Math.Path.{refl}
 use Rattle.std.proofs.Common.{ap, ◌∙◌, arith, ltb-false}
 use Rattle.sectors.specs.Fill.{part}
-use Rattle.sectors.proofs.FillLaws.{part_size, part_length}
+use Rattle.sectors.specs.FillLaws.{part_size, part_length}
 use Rattle.sectors.specs.Format.{sector_size}
 use Rattle.sectors.specs.Refusal.{short_buffer, no_such_entry}
 use Rattle.text.proofs.StringLaws.{placed_past}
 use Rattle.text.specs.declared.decode.DecodeAnswer.{DecodeAnswer}
 use Rattle.area.specs.Area.{area_texts}
 use Rattle.area.specs.Limits.{max_table_bytes, max_tracks}
-use Rattle.area.proofs.TestLaws.{or_left}
+use Rattle.area.specs.TestLaws.{or_left}
 use Rattle.area.specs.TextDecode.{Text, refused, found, table_short, no_such_area, no_such_track, place_of, text_of, area_text_in, track_text_in, text_answer, text_page}
 use Rattle.area.proofs.TextDecodeLaws.{large_not_short, area_text_none, area_text_found, track_text_none, track_text_found}
 use Rattle.area.specs.TrackText.{track_texts}

@@ -13,7 +13,7 @@ use Rattle.sectors.specs.Fill.{part}
 use Rattle.sectors.specs.Number.{be_at}
 use Rattle.text.specs.String.{string_at}
 use Rattle.text.proofs.StringLaws.{string_part}
-use Rattle.text.proofs.WhileLaws.{scan_more, scan_stop, scan_end}
+use Rattle.text.specs.WhileLaws.{scan_more, scan_stop, scan_end}
 use Rattle.area.specs.Items.{Item, item_at, is_zero, nonzero_at, next_item, items_from, drawn_none, draw_at, item_of}
 use Rattle.area.specs.declared.items.Drawn.{Drawn}
 

@@ -9,7 +9,7 @@ use native.Mathlib.Omega.{arith}
 use borrow.Author.Tests.{ltb-true, leb-true, eqb-true, eq-eqb, ne_eqb, lt-ltb, le-ltb, ltb-false, le-leb, lt-leb}
 use Rattle.std.proofs.Math.Dec.{ltb}
 use Rattle.std.proofs.Math.ListN.{length, get_or, drop}
-use Rattle.sectors.proofs.FillLaws.{part_length}
+use Rattle.sectors.specs.FillLaws.{part_length}
 use Rattle.text.specs.Mapping.{count_at, behind, entries_at, singles_at, pairs_at, doubles_at, words_end, doubles_of, double_count, is_whole, is_point, is_value, entries_sound, all_points, lists_sound, is_mapping, found, not_found, lookup_in, Rising}
 
 -- the next entry stands two words on

@@ -6,12 +6,12 @@ use Rattle.std.proofs.Math.Bool.{Bool, true, false, cond, true≢false, or-true}
 use Rattle.std.proofs.Math.Path.{refl, ap}
 use borrow.Author.Tests.{ltb-true, ltb-false, lt-ltb, not-true, not-false}
 use Rattle.std.proofs.Math.Dec.{ltb}
-use Rattle.sectors.proofs.CheckLaws.{fails, comes_here, comes_later, not_either}
+use Rattle.sectors.specs.CheckLaws.{fails, comes_here, comes_later, not_either}
 use Rattle.sectors.specs.Fill.{part}
-use Rattle.sectors.proofs.FillLaws.{part_size, part_part}
+use Rattle.sectors.specs.FillLaws.{part_size, part_part}
 use Rattle.sectors.specs.Format.{foreign, stored_size, data_offset, sector_size}
 use Rattle.sectors.specs.Number.{be_at}
-use Rattle.sectors.proofs.NumberLaws.{be_byte}
+use Rattle.sectors.specs.NumberLaws.{be_byte}
 use Rattle.sectors.specs.Refusal.{foreign_format, short_buffer}
 use Rattle.sectors.specs.Sector.{sector_count, readable}
 use Rattle.sectors.proofs.SectorLaws.{foreign_when, readable_false, is_readable, not_readable, run_length, run_byte, run_section}
@@ -27,8 +27,8 @@ use Rattle.disc.specs.Copies.{has_area}
 use Rattle.disc.specs.Outcome.{Memory, Outcome}
 use Rattle.disc.specs.Disc.{Master, refused, reads, is_short, judged, master_in, image_master, warnings_of, refusal, silent, accepted, answer_of, table_of, reading_of, outcome_of, read_disc}
 use Rattle.disc.specs.Demand3.{master_table}
-use Rattle.disc.proofs.DiscLaws.{master_back}
-use Rattle.disc.proofs.RegionLaws.{master_held}
+use Rattle.disc.specs.DiscLaws.{master_back}
+use Rattle.disc.specs.RegionLaws.{master_held}
 use Rattle.disc.specs.declared.master.MasterToc.{MasterToc}
 
 -- ---- the conditions

@@ -3,7 +3,7 @@ use Rattle.std.specs.Prelude.{ℕ, ◌-◌, ◌≤◌, ◌<◌, ◌≡◌, false
 use Rattle.std.proofs.Common.{arith, sym, ◌∙◌, ap}
 use Rattle.std.proofs.Math.ListN.{get_or-append}
 use Rattle.text.specs.While.{take_while, drop_while, drop_while_end}
-use Rattle.text.proofs.WhileLaws.{Passing, take_drop_while, take_while_passing, drop_while_length, drop_while_starts, CutTo, drop_while_end_cut, drop_while_end_length}
+use Rattle.text.specs.WhileLaws.{Passing, take_drop_while, take_while_passing, drop_while_length, drop_while_starts, CutTo, drop_while_end_cut, drop_while_end_length}
 use Rattle.text.specs.White.{is_white, trimmed}
 
 -- a trimmed text is no longer than the text

@@ -2,7 +2,7 @@
 use Rattle.std.specs.Prelude.{◌≡◌, ℕ, ◌+◌, ◌-◌, ◌<◌, ◌≤◌, min, List, length, take, slice_index_or, slice_set}
 use Rattle.std.proofs.Common.{sym, ◌∙◌, append-nil, le_of_eq, add-one, arith, drop_of_length-le, take-suc, length-take-le, take_all}
 use Rattle.sectors.specs.Fill.{fill, copy_into}
-use Rattle.sectors.proofs.FillLaws.{take_cut, fill_front, fill_one}
+use Rattle.sectors.specs.FillLaws.{take_cut, fill_front, fill_one}
 
 module _ {A : Type 0} (at : ℕ) (new old : List A) where
   -- what fits is copied whole

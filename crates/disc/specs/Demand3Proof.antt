@@ -7,7 +7,7 @@ use mathlib.Core.List.{List}
 use Rattle.std.proofs.Math.Option.{Option, none, some}
 use Rattle.std.proofs.Math.Path.{refl, sym, ap}
 use Rattle.sectors.specs.Format.{foreign, stored_size, data_offset}
-use Rattle.sectors.proofs.OptionLaws.{some_eq, no_some}
+use Rattle.sectors.specs.OptionLaws.{some_eq, no_some}
 use Rattle.sectors.specs.Options.{Known}
 use Rattle.sectors.specs.Refusal.{foreign_format}
 use Rattle.sectors.specs.Sector.{sector_count, readable, sector_data}
@@ -19,8 +19,8 @@ use Rattle.disc.specs.Master.{master_lsn, master_sectors, pointer_of}
 use Rattle.disc.specs.Outcome.{Memory, Outcome, Yielded, slot_yields}
 use Rattle.disc.specs.Disc.{refused, master_in, image_master, refusal, outcome_of, read_source, read_disc}
 use Rattle.disc.specs.Demand3.{Place, Names, first_place, second_place, LiesIn, HasMaster, master_table, copy_bytes, Roomy, Unrefused, area_from, pointer, KeptSector, of_master, of_copy, Rewritten, given, Holds, OneCut, TwoCuts, Demand3}
-use Rattle.disc.proofs.DiscLaws.{Passed, passed_of, refusal_yields}
-use Rattle.disc.proofs.SourceCut.{CutOf, same_table, SourceHolds, source_holds, SourceGave, source_gave, source_again}
+use Rattle.disc.specs.DiscLaws.{Passed, passed_of, refusal_yields}
+use Rattle.disc.specs.SourceCut.{CutOf, same_table, SourceHolds, source_holds, SourceGave, source_gave, source_again}
 
 -- ---- an image as a source
 

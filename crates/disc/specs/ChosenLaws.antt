@@ -6,7 +6,7 @@ use Rattle.std.proofs.Common.{true≢false, ◌∙◌}
 use Rattle.std.proofs.Math.Option.{Option, none, some}
 use Rattle.std.proofs.Math.Path.{refl, sym, ap}
 use borrow.Author.Tests.{ne_eqb, eq-eqb, eqb-false, le-ltb, not-true}
-use Rattle.sectors.proofs.OptionLaws.{some_eq, no_some}
+use Rattle.sectors.specs.OptionLaws.{some_eq, no_some}
 use Rattle.sectors.specs.Options.{only_if}
 use Rattle.sectors.specs.Source.{Source, run_of}
 use Rattle.area.specs.Area.{addressed, no_area, kind_of}
@@ -17,7 +17,7 @@ use Rattle.area.specs.Table as Area
 use Rattle.area.proofs.TableLaws.{head_skips, present_given, address_tracks, addressed_present, area_of, address_area, address_no_area, area_yields, yields_area, yields_tracks}
 use Rattle.disc.specs.Slot.{Slot, slot_number}
 use Rattle.disc.specs.Copies.{is_used, is_too_large, is_served, has_second, first_copy, second_copy, Copy, chosen_of, chosen, table_in, has_area, area_in, tracks_in, warnings_in}
-use Rattle.disc.proofs.CopyLaws.{served_few}
+use Rattle.disc.specs.CopyLaws.{served_few}
 use Rattle.disc.specs.Outcome.{Yielded, is_present}
 use Rattle.disc.specs.Demand3.{Place, Served, first_place, second_place, HasSecond, Names, the_first, the_second, yielded_by, area_from}
 use Rattle.disc.specs.declared.master.AreaPointer.{AreaPointer}

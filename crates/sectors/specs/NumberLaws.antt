@@ -3,7 +3,7 @@ use Rattle.std.specs.Prelude.{◌≡◌, ℕ, zero, suc, ◌+◌, ◌*◌, ◌^�
 use Rattle.std.proofs.Common.{sym, ap, ◌∙◌, add-zero, add-suc, add_assoc, mul_assoc, pow-suc, arith}
 use Rattle.std.proofs.Math.ListN.{get_or-eq_default}
 use Rattle.sectors.specs.Fill.{part}
-use Rattle.sectors.proofs.FillLaws.{part_at}
+use Rattle.sectors.specs.FillLaws.{part_at}
 use Rattle.sectors.specs.Number.{be_at}
 
 -- a number that starts at or past the end is 0

@@ -7,9 +7,9 @@ use Rattle.std.proofs.Math.Option.{Option, none, some}
 use Rattle.std.proofs.Math.Path.{ap}
 use Rattle.std.proofs.lemmas.List.{length-replicate, get_or-replicate}
 use Rattle.sectors.specs.Fill.{part}
-use Rattle.sectors.proofs.FillLaws.{part_all, part_at}
+use Rattle.sectors.specs.FillLaws.{part_all, part_at}
 use Rattle.sectors.specs.Format.{sector_size}
-use Rattle.sectors.proofs.OptionLaws.{some_eq, no_some}
+use Rattle.sectors.specs.OptionLaws.{some_eq, no_some}
 use Rattle.sectors.specs.Options.{only_if}
 use Rattle.sectors.specs.Sector.{sector_count, readable}
 use Rattle.sectors.proofs.SectorLaws.{readable_true, is_readable, not_readable, count_known, count_bound, plain_count}
@@ -29,7 +29,7 @@ use Rattle.disc.specs.Master.{pointer_of, master_of}
 use Rattle.disc.specs.Outcome.{Memory, Outcome, Yielded, area_for, is_accepted, is_present, handed_back, slot_yields}
 use Rattle.disc.specs.Disc.{silent, read_disc}
 use Rattle.disc.specs.Demand3.{Served, first_place, second_place, LiesIn, master_table, copy_bytes, ComesOut, Roomy, Unrefused, yielded_by, area_from, pointer, Kept, Rewritten, given, Holds, Demand3}
-use Rattle.disc.proofs.Demand3Proof.{tables_same, demand3}
+use Rattle.disc.specs.Demand3Proof.{tables_same, demand3}
 use Rattle.disc.specs.Sample.{sample_table, other_table, unsigned_table, marked_length, sample_kept, other_kept, other_unsigned, unsigned_skipped, marked_count, Sample, sample_image, image_length, image_sectors, first_bytes, second_bytes, sample_scarlet, sample_version, sample_minor, sample_served, sample_second, first_place_lem, second_place_lem}
 use Rattle.disc.specs.declared.master.MasterToc.{MasterToc}
 use Rattle.disc.specs.declared.answer.DiscAnswer.{DiscAnswer}

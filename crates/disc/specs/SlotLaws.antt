@@ -9,12 +9,12 @@ use Rattle.std.proofs.Math.Option.{Option, none, some}
 use Rattle.std.proofs.Math.Dec.{eqb}
 use borrow.Author.Tests.{eqb-true, eqb-false}
 use Rattle.sectors.specs.Fill.{part}
-use Rattle.sectors.proofs.FillLaws.{take_part}
+use Rattle.sectors.specs.FillLaws.{take_part}
 use Rattle.sectors.specs.Format.{sector_size}
 use Rattle.sectors.specs.Options.{only_if}
 use Rattle.sectors.specs.Source.{Source, Sized}
 use Rattle.area.specs.Limits.{max_area_toc_sectors, max_table_bytes, table_bytes}
-use Rattle.area.proofs.LimitLaws.{table_bytes_front}
+use Rattle.area.specs.LimitLaws.{table_bytes_front}
 use Rattle.area.specs.Skip.{skip_of}
 use Rattle.area.specs.Table as Area
 use Rattle.area.specs.Table.{Table}
@@ -28,8 +28,8 @@ use Rattle.disc.specs.Outcome.{is_present}
 use Rattle.disc.specs.Slot.{Slot, two_channel, multichannel, slot_number, region_at, work_bytes, region_of}
 use Rattle.disc.specs.Steps.{slot_head, plan_warnings, slot_tracks, slot_notes}
 use Rattle.disc.specs.declared.master.AreaPointer.{AreaPointer}
-use Rattle.disc.proofs.RegionLaws.{region_begins}
-use Rattle.disc.proofs.CopyLaws.{either_there, table_chosen, chosen_whole}
+use Rattle.disc.specs.RegionLaws.{region_begins}
+use Rattle.disc.specs.CopyLaws.{either_there, table_chosen, chosen_whole}
 
 -- ---- a head and its warnings give what a table gives: its area, its tracks, its warnings
 record Gives (lent : List ℕ) (head : TableHead) (warned : List Warning) (t : Option Table) : Type 0 where

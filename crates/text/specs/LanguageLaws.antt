@@ -1,8 +1,8 @@
 -- Laws of language codes: at most two characters, zeros past them, and what is taken away. Assumes nothing.
 use Rattle.std.specs.Prelude.{ℕ, ◌≤◌, ◌≡◌, List, length, take}
 use Rattle.std.proofs.Common.{arith}
-use Rattle.text.proofs.WhileLaws.{CutTo, drop_while_end_cut, drop_while_end_length}
-use Rattle.text.proofs.PaddedLaws.{TextIn, padded_held, padded_text}
+use Rattle.text.specs.WhileLaws.{CutTo, drop_while_end_cut, drop_while_end_length}
+use Rattle.text.specs.PaddedLaws.{TextIn, padded_held, padded_text}
 use Rattle.text.specs.Language.{language_size, is_zero_orBlank, language_text, language_of}
 
 module _ (code : List ℕ) where

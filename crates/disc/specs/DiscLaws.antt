@@ -10,21 +10,21 @@ use Rattle.std.proofs.Math.Path.{refl, ap}
 use Rattle.std.proofs.Common.{sym, ◌∙◌, le-ltb, ltb-false}
 use Rattle.std.proofs.Math.ListN.{length}
 use Rattle.sectors.specs.Fill.{part, fill}
-use Rattle.sectors.proofs.FillLaws.{length_fill, part_filled, part_before}
+use Rattle.sectors.specs.FillLaws.{length_fill, part_filled, part_before}
 use Rattle.sectors.specs.Format.{sector_size}
-use Rattle.sectors.proofs.OptionLaws.{no_some}
+use Rattle.sectors.specs.OptionLaws.{no_some}
 use Rattle.sectors.specs.Options.{only_if}
 use Rattle.sectors.specs.Refusal.{short_buffer}
 use Rattle.sectors.specs.Source.{Source, Sized, run_of}
 use Rattle.sectors.proofs.SourceLaws.{run_of_length}
 use Rattle.area.specs.Area.{addressed, no_area}
-use Rattle.area.proofs.LimitLaws.{table_size_lem}
+use Rattle.area.specs.LimitLaws.{table_size_lem}
 use Rattle.area.specs.Limits.{max_area_toc_sectors, max_tracks, table_size}
 use Rattle.area.specs.Refusal.{no_audio_areas}
 use Rattle.area.specs.Skip.{skip_of}
 use Rattle.area.specs.Table as Area
 use Rattle.area.proofs.TableLaws.{tracks_count, sectors_given, no_area_absent, addressed_track_count, addressed_sectors}
-use Rattle.area.proofs.TestLaws.{or_left, or_right}
+use Rattle.area.specs.TestLaws.{or_left, or_right}
 use Rattle.disc.specs.Slot.{Slot, two_channel, multichannel, slot_number, region_at, tracks_at, work_bytes, track_records, warning_words}
 use Rattle.disc.specs.Master.{master_lsn, master_sectors, master_bytes, is_scarlet_book, major_version, is_newer, pointer_of, master_of}
 use Rattle.disc.specs.Refusal.{master_toc_truncated, not_scarlet_book, version_unsupported}
@@ -32,11 +32,11 @@ use Rattle.disc.specs.Copies.{Copy, chosen, bytes_of, table_in, has_area, area_i
 use Rattle.disc.specs.Outcome.{Memory, Outcome, Yielded, area_for, is_accepted, is_present, handed_back, slot_yields}
 use Rattle.disc.specs.Disc.{refused, reads, is_short, judged, master_in, warnings_of, refusal, silent, accepted, answer_of, table_of, copy_of, work_after, tracks_after, reading_of, outcome_of, read_source}
 use Rattle.disc.specs.Demand3.{Roomy}
-use Rattle.disc.proofs.RegionLaws.{region_begins}
-use Rattle.disc.proofs.ChosenLaws.{place_of, chosen_named, chosen_there, names_served, names_sectors, yielded_in, whole_table, kept_yield, copy_tracks, kept_area, kept_present, kept_is, skipped_area, skipped_is, no_area_none, area_some}
+use Rattle.disc.specs.RegionLaws.{region_begins}
+use Rattle.disc.specs.ChosenLaws.{place_of, chosen_named, chosen_there, names_served, names_sectors, yielded_in, whole_table, kept_yield, copy_tracks, kept_area, kept_present, kept_is, skipped_area, skipped_is, no_area_none, area_some}
 use Rattle.disc.specs.declared.answer.DiscAnswer.{DiscAnswer}
 use Rattle.disc.specs.declared.master.AreaPointer.{AreaPointer}
-use Rattle.disc.proofs.CopyLaws.{slot_tracks_few}
+use Rattle.disc.specs.CopyLaws.{slot_tracks_few}
 
 -- ---- two fills that do not touch
 

@@ -9,7 +9,7 @@ use Rattle.disc.specs.Calls.{Call, Said, told}
 use Rattle.disc.specs.Outcome.{Outcome}
 use Rattle.disc.specs.Disc.{read_disc}
 use Rattle.disc.specs.Demand3.{Roomy, Rewritten, OneCut, TwoCuts}
-use Rattle.disc.proofs.Demand3Proof.{demand3}
+use Rattle.disc.specs.Demand3Proof.{demand3}
 
 -- one call, on an image that is a cut of any uncut one, rewritten
 abbrev pub OneCall : Call → List ℕ → ℕ → Type 0

@@ -1,7 +1,7 @@
 -- Laws of a table's bytes: how many there are, and a table that is lent whole. Assumes nothing.
 use Rattle.std.specs.Prelude.{◌≡◌, List, ◌++◌, ℕ, ◌*◌, ◌≤◌, length}
 use Rattle.std.proofs.Common.{◌∙◌, arith}
-use Rattle.sectors.proofs.FillLaws.{part_size, part_all, part_front}
+use Rattle.sectors.specs.FillLaws.{part_size, part_all, part_front}
 use Rattle.sectors.specs.Format.{sector_size}
 use Rattle.area.specs.Limits.{max_area_toc_sectors, max_table_bytes, table_size, table_bytes}
 
