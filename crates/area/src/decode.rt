@@ -43,7 +43,7 @@ fn decode_at(lent: &[u8], area: Area, place: u32, mapping: &[u32], page: &mut [u
 }
 
 // Decodes a text of an area, by its item index, to the start of a page.
-#[tactic(auto, unfolding(crate::specs::TextDecode::area_text_in, crate::specs::TextDecode::text_of, crate::specs::TextDecode::place_of, crate::specs::TextDecode::text_answer, crate::specs::TextDecode::text_page, text::specs::Decode::refusing))]
+#[tactic(auto, using(text::proofs::DecodeLaws::refusing_is), unfolding(crate::specs::TextDecode::area_text_in, crate::specs::TextDecode::text_of, crate::specs::TextDecode::place_of, crate::specs::TextDecode::text_answer, crate::specs::TextDecode::text_page))]
 pub fn decode_area_text(
     table: &[u8],
     area: Area,
@@ -91,7 +91,7 @@ fn no_such_track(area: Area, number: u32) -> bool
 }
 
 // Decodes the text that a track of a list of so many has at a place, by the track's number and the item index.
-#[tactic(auto, unfolding(crate::specs::TextDecode::track_text_in, crate::specs::TextDecode::text_of, crate::specs::TextDecode::text_answer, crate::specs::TextDecode::text_page, text::specs::Decode::refusing))]
+#[tactic(auto, using(text::proofs::DecodeLaws::refusing_is), unfolding(crate::specs::TextDecode::track_text_in, crate::specs::TextDecode::text_of, crate::specs::TextDecode::text_answer, crate::specs::TextDecode::text_page))]
 pub fn decode_of_track(
     table: &[u8],
     area: Area,

@@ -1,18 +1,20 @@
--- Laws of decoding after a disc reading: when it is refused, and which texts are absent. Assumes nothing.
+-- Laws of decoding after a disc reading: what its answer and its page are, by what was found; when it is refused, and which texts are absent.
+-- Assumes nothing.
 use Rattle.std.specs.Prelude.{◌≡◌, Bool, true, false, cond, ◌||◌, List, [], ℕ, ◌≤◌, leb, ltb, eqb, length}
 use Rattle.std.proofs.Math.Path.{refl}
-use Rattle.std.proofs.Common.{ap, ◌∙◌, arith, ltb-false}
+use Rattle.std.proofs.Common.{sym, ap, ◌∙◌, arith, ltb-false}
 use Rattle.sectors.specs.Fill.{part}
 use Rattle.sectors.specs.FillLaws.{part_size, part_length}
 use Rattle.sectors.specs.Format.{sector_size}
 use Rattle.sectors.specs.Refusal.{short_buffer, no_such_entry}
 use Rattle.text.proofs.StringLaws.{placed_past}
+use Rattle.text.specs.Decode.{decode_of, decode_into}
 use Rattle.text.specs.declared.decode.DecodeAnswer.{DecodeAnswer}
 use Rattle.area.specs.Area.{area_texts}
 use Rattle.area.specs.Limits.{max_table_bytes, max_tracks}
 use Rattle.area.specs.TestLaws.{or_left}
 use Rattle.area.specs.TextDecode.{Text, refused, found, table_short, no_such_area, no_such_track, place_of, text_of, area_text_in, track_text_in, text_answer, text_page}
-use Rattle.area.proofs.TextDecodeLaws.{large_not_short, area_text_none, area_text_found, track_text_none, track_text_found}
+use Rattle.area.proofs.TextDecodeLaws.{asked_refused, asked_found, large_not_short, area_text_none, area_text_found, track_text_none, track_text_found}
 use Rattle.area.specs.TrackText.{track_texts}
 use Rattle.area.specs.declared.area.Area.{Area}
 use Rattle.disc.specs.Slot.{two_channel, multichannel, region_at, master_region, work_bytes, track_records, region_of}
@@ -25,6 +27,20 @@ pub asked_same : (text same : Text) (words old : List ℕ) (answer : DecodeAnswe
     → page ≡ text_page text words old → (answer ≡ text_answer same words (length old)) × (page ≡ text_page same words old)
 asked_same text same words old answer page e a p =
     (a ∙ ap (λ (t : Text). text_answer t words (length old)) e, p ∙ ap (λ (t : Text). text_page t words old) e)
+
+-- the answer and the page of a refusal, and of a text that is found
+module _ (words page : List ℕ) where
+  pub refused_answer : (number : ℕ) → text_answer (refused number) words (length page) ≡ record { refusal = number; len = 0 }
+  refused_answer number = sym (asked_refused (refused number) words page number refl).0
+
+  pub refused_page : (number : ℕ) → text_page (refused number) words page ≡ page
+  refused_page number = sym (asked_refused (refused number) words page number refl).1
+
+  pub found_answer : (bytes : List ℕ) (code : ℕ) → text_answer (found bytes code) words (length page) ≡ decode_of bytes code words (length page)
+  found_answer bytes code = sym (asked_found (found bytes code) words page bytes bytes code _ _ refl refl refl refl).0
+
+  pub found_page : (bytes : List ℕ) (code : ℕ) → text_page (found bytes code) words page ≡ decode_into bytes code words page
+  found_page bytes code = sym (asked_found (found bytes code) words page bytes bytes code _ _ refl refl refl refl).1
 
 -- ---- a text of the disc placed at or past the end of sector 1 is absent
 pub disc_past_absent : (work : List ℕ) (place : ℕ) → sector_size ≤ place → disc_text_at work place ≡ []

@@ -25,7 +25,7 @@ fn disc_text_sector<'a>(work: &'a [u8]) -> &'a [u8]
 }
 
 // Decodes a text of the disc, by its item index, to the start of a page.
-#[tactic(auto, unfolding(crate::specs::TextDecode::disc_text_in, crate::specs::TextDecode::disc_text_at, crate::specs::TextDecode::disc_place, crate::specs::TextDecode::work_short, area::specs::TextDecode::text_answer, area::specs::TextDecode::text_page, text::specs::Decode::refusing))]
+#[tactic(auto, using(crate::specs::TextDecodeLaws::refused_answer, crate::specs::TextDecodeLaws::refused_page, crate::specs::TextDecodeLaws::found_answer, crate::specs::TextDecodeLaws::found_page), unfolding(crate::specs::TextDecode::disc_text_in, crate::specs::TextDecode::disc_text_at, crate::specs::TextDecode::disc_place, crate::specs::TextDecode::work_short))]
 pub fn decode_disc_text(
     work: &[u8],
     master: MasterToc,
@@ -55,7 +55,7 @@ pub fn decode_disc_text(
 }
 
 // Decodes a text of an area, by its item index, to the start of a page.
-#[tactic(auto, unfolding(crate::specs::TextDecode::area_text_on, crate::specs::TextDecode::work_short, area::specs::TextDecode::text_answer, area::specs::TextDecode::text_page, text::specs::Decode::refusing))]
+#[tactic(auto, using(crate::specs::TextDecodeLaws::refused_answer, crate::specs::TextDecodeLaws::refused_page), unfolding(crate::specs::TextDecode::area_text_on, crate::specs::TextDecode::work_short))]
 pub fn decode_disc_area_text(
     work: &[u8],
     area: Area,
@@ -90,7 +90,7 @@ fn track_place(area: Area, number: u32) -> usize
 }
 
 // Decodes the text that a track of a list of so many has at a place, by the track's number and the item index.
-#[tactic(auto, unfolding(crate::specs::TextDecode::track_text_on, crate::specs::TextDecode::lent_short, crate::specs::TextDecode::work_short, area::specs::TextDecode::text_answer, area::specs::TextDecode::text_page, text::specs::Decode::refusing))]
+#[tactic(auto, using(crate::specs::TextDecodeLaws::refused_answer, crate::specs::TextDecodeLaws::refused_page), unfolding(crate::specs::TextDecode::track_text_on, crate::specs::TextDecode::lent_short, crate::specs::TextDecode::work_short))]
 fn decode_of_disc_track(
     work: &[u8],
     area: Area,

@@ -125,7 +125,7 @@ fn date_at(table: &[u8]) -> Date
 }
 
 // Four genres from a place on.
-#[tactic(auto, unfolding(crate::specs::Master::genres_at, area::specs::Tabulate::tabulate))]
+#[tactic(auto, using(crate::proofs::Spelled::tabulate_spelled), unfolding(crate::specs::Master::genres_at))]
 fn genres_at(table: &[u8], at: u8) -> [Genre; GENRES]
     ensures { result ≡ genres_at table.now at }
 {
@@ -151,7 +151,7 @@ fn locale_count(channels: u8) -> u8
 }
 
 // The first locales, as many as a count says and the record holds; zero past them.
-#[tactic(auto, unfolding(crate::specs::Master::locales_at, area::specs::Tabulate::tabulate))]
+#[tactic(auto, using(crate::proofs::Spelled::tabulate_spelled), unfolding(crate::specs::Master::locales_at))]
 fn locales_at(table: &[u8], count: u8) -> [Locale; MAX_DISC_LOCALES]
     ensures { result ≡ locales_at table.now count }
 {
@@ -184,7 +184,7 @@ pub(crate) fn has_manufacturer(table: &[u8]) -> bool
 }
 
 // The places of a disc's texts, in sector 1.
-#[tactic(auto, unfolding(crate::specs::Master::disc_texts_at, crate::specs::Master::text_sector, area::specs::Tabulate::tabulate))]
+#[tactic(auto, using(crate::proofs::Spelled::tabulate_spelled), unfolding(crate::specs::Master::disc_texts_at, crate::specs::Master::text_sector))]
 fn disc_texts_at(table: &[u8]) -> [TextPlace; DISC_TEXTS]
     ensures { result ≡ disc_texts_at table.now }
 {
