@@ -5,7 +5,7 @@ ghost use Rattle.area.specs.Lent.{counted};
 ghost use Rattle.listing_text.specs.Decimal.{decimal};
 
 // Writes one byte.
-#[tactic(auto, unfolding(area::specs::Lent::counted))]
+#[tactic(auto, using(area::specs::LentLaws::counted_all, area::specs::LentLaws::counted_full))]
 pub(crate) fn put_byte(page: &mut [u8], at: usize, byte: u8) -> usize
     ensures written { page.new ≡ sets page.old at (byte ∷ []) }
     ensures counted { result ≡ counted page.old at (byte ∷ []) }
