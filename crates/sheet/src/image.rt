@@ -64,10 +64,8 @@ pub(crate) fn put_four(image: &mut [u8], lsn: u16, offset: u16, n: u16) {
 
 // Stores a signature.
 pub(crate) fn put_signature(image: &mut [u8], lsn: u16, offset: u16, signature: [u8; 8]) {
-    let mut i = 0;
-    while i < 8 {
+    for i in 0..8 {
         put_behind(image, lsn, offset, i, signature[i as usize]);
-        i += 1;
     }
 }
 

@@ -9,8 +9,9 @@ use image::{
     IMAGE_BYTES, MASTER_END, Pointer, no_pointer, put, put_four, put_master, put_signature,
     put_table, zeros,
 };
-use libc::STDOUT_FILENO;
 use print::{blank_work, print_format, print_reading, print_refusal, short_work};
+use std::io;
+use std::io::{BufWriter, Write};
 
 // A table of three sectors in two copies: the first lies at the image's end, so that a cut takes it and leaves the second.
 const FIRST_COPY: u16 = 520;
@@ -50,21 +51,21 @@ fn put_one_table(image: &mut [u8], sectors: u16) {
 }
 
 // Cut inside the last sector of the master table, then inside that of the first copy: half a sector is none.
-fn sheet_cut() {
+fn sheet_cut(out: &mut impl Write) -> io::Result<()> {
     let mut image = zeros();
     put_copies(&mut image);
-    io::write_all(STDOUT_FILENO, b"sheet_cut\n");
-    print_reading(&image[..MASTER_END - 1024]);
-    print_reading(&image[..IMAGE_BYTES - 1024]);
+    out.write_all(b"sheet_cut\n")?;
+    print_reading(out, &image[..MASTER_END - 1024])?;
+    print_reading(out, &image[..IMAGE_BYTES - 1024])
 }
 
 // With both copies, then without the first.
-fn sheet_copy() {
+fn sheet_copy(out: &mut impl Write) -> io::Result<()> {
     let mut image = zeros();
     put_copies(&mut image);
-    io::write_all(STDOUT_FILENO, b"sheet_copy\n");
-    print_reading(&image);
-    print_reading(&image[..MASTER_END]);
+    out.write_all(b"sheet_copy\n")?;
+    print_reading(out, &image)?;
+    print_reading(out, &image[..MASTER_END])
 }
 
 // Stores a second track at LSN 1,500, of 250 sectors, that starts at 1:01:25 and lasts 0:00:00.
@@ -85,19 +86,19 @@ fn put_overrun(image: &mut [u8]) {
 }
 
 // A play time of 4,500 frames: the first track lasts 4,501, the second starts at 4,600.
-fn sheet_playtime() {
+fn sheet_playtime(out: &mut impl Write) -> io::Result<()> {
     let mut image = zeros();
     put_overrun(&mut image);
-    io::write_all(STDOUT_FILENO, b"sheet_playtime\n");
-    print_reading(&image);
+    out.write_all(b"sheet_playtime\n")?;
+    print_reading(out, &image)
 }
 
 // A table of 128 sectors is read.
-fn sectors_128() {
+fn sectors_128(out: &mut impl Write) -> io::Result<()> {
     let mut image = zeros();
     put_one_table(&mut image, 128);
-    io::write_all(STDOUT_FILENO, b"sectors_128\n");
-    print_reading(&image);
+    out.write_all(b"sectors_128\n")?;
+    print_reading(out, &image)
 }
 
 // A disc with a two-channel table of 129 sectors, and a multichannel one of three in two copies.
@@ -121,11 +122,11 @@ fn put_large(image: &mut [u8]) {
 }
 
 // A table of 129 sectors is skipped; the other slot's is read.
-fn sectors_129() {
+fn sectors_129(out: &mut impl Write) -> io::Result<()> {
     let mut image = zeros();
     put_large(&mut image);
-    io::write_all(STDOUT_FILENO, b"sectors_129\n");
-    print_reading(&image);
+    out.write_all(b"sectors_129\n")?;
+    print_reading(out, &image)
 }
 
 // A disc whose table has the same start and end LSN.
@@ -135,45 +136,47 @@ fn put_one_sector(image: &mut [u8]) {
 }
 
 // Start and end LSN are both 1,000.
-fn equal_lsns() {
+fn equal_lsns(out: &mut impl Write) -> io::Result<()> {
     let mut image = zeros();
     put_one_sector(&mut image);
-    io::write_all(STDOUT_FILENO, b"equal_lsns\n");
-    print_reading(&image);
+    out.write_all(b"equal_lsns\n")?;
+    print_reading(out, &image)
 }
 
 // One work byte or one warning word too few: 2. Enough of both: 3, for an image without a sector.
-fn short_buffers() {
+fn short_buffers(out: &mut impl Write) -> io::Result<()> {
     let mut work = blank_work();
     let mut less_work = short_work();
     let mut words = [0u32; 2047];
     let mut less_words = [0u32; 2046];
-    io::write_all(STDOUT_FILENO, b"short_buffers\n");
-    print_refusal(&mut less_work, &mut words);
-    print_refusal(&mut work, &mut less_words);
-    print_refusal(&mut work, &mut words);
+    out.write_all(b"short_buffers\n")?;
+    print_refusal(out, &mut less_work, &mut words)?;
+    print_refusal(out, &mut work, &mut less_words)?;
+    print_refusal(out, &mut work, &mut words)
 }
 
 // The master table's signature where LSN 510 begins in format 1, then in 2 too, then in 0 too: of 1 and 2 it is 2 that is found.
-fn detection_order() {
+fn detection_order(out: &mut impl Write) -> io::Result<()> {
     let mut image = zeros();
-    io::write_all(STDOUT_FILENO, b"detection_order\n");
-    print_format(&image);
+    out.write_all(b"detection_order\n")?;
+    print_format(out, &image)?;
     put_signature(&mut image, 511, 1018, *b"SACDMTOC");
-    print_format(&image);
+    print_format(out, &image)?;
     put_signature(&mut image, 513, 2028, *b"SACDMTOC");
-    print_format(&image);
+    print_format(out, &image)?;
     put_signature(&mut image, 510, 0, *b"SACDMTOC");
-    print_format(&image);
+    print_format(out, &image)
 }
 
-fn main() {
-    sheet_cut();
-    sheet_copy();
-    sheet_playtime();
-    sectors_128();
-    sectors_129();
-    equal_lsns();
-    short_buffers();
-    detection_order();
+fn main(rt: HostRuntime) -> io::Result<()> {
+    let mut out = BufWriter::new(rt.alloc(), rt.stdout())?;
+    sheet_cut(&mut out)?;
+    sheet_copy(&mut out)?;
+    sheet_playtime(&mut out)?;
+    sectors_128(&mut out)?;
+    sectors_129(&mut out)?;
+    equal_lsns(&mut out)?;
+    short_buffers(&mut out)?;
+    detection_order(&mut out)?;
+    out.flush()
 }

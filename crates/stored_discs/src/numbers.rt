@@ -1,38 +1,37 @@
-// Numbers on standard output.
-use libc::STDOUT_FILENO;
+// Numbers of a line.
+use std::io;
+use std::io::Write;
 
 // Writes a blank and a number.
-pub(crate) fn put_u64(n: u64) {
-    io::write_all(STDOUT_FILENO, b" ");
-    io::print_decimal(STDOUT_FILENO, n);
+pub(crate) fn put_u64(out: &mut impl Write, n: u64) -> io::Result<()> {
+    write!(out, " {n}")
 }
 
-pub(crate) fn put_u32(n: u32) {
-    put_u64(n as u64);
+pub(crate) fn put_u32(out: &mut impl Write, n: u32) -> io::Result<()> {
+    put_u64(out, n as u64)
 }
 
-pub(crate) fn put_u16(n: u16) {
-    put_u64(n as u64);
+pub(crate) fn put_u16(out: &mut impl Write, n: u16) -> io::Result<()> {
+    put_u64(out, n as u64)
 }
 
-pub(crate) fn put_u8(n: u8) {
-    put_u64(n as u64);
+pub(crate) fn put_u8(out: &mut impl Write, n: u8) -> io::Result<()> {
+    put_u64(out, n as u64)
 }
 
-pub(crate) fn put_usize(n: usize) {
-    put_u64(n as u64);
+pub(crate) fn put_usize(out: &mut impl Write, n: usize) -> io::Result<()> {
+    put_u64(out, n as u64)
 }
 
 // Writes each byte as a number.
-pub(crate) fn put_bytes(bytes: &[u8]) {
-    let mut i = 0;
-    while i < bytes.len() {
-        put_u8(bytes[i]);
-        i += 1;
+pub(crate) fn put_bytes(out: &mut impl Write, bytes: &[u8]) -> io::Result<()> {
+    for b in bytes {
+        put_u8(out, *b)?;
     }
+    Ok(())
 }
 
 // Ends a line.
-pub(crate) fn end_line() {
-    io::write_all(STDOUT_FILENO, b"\n");
+pub(crate) fn end_line(out: &mut impl Write) -> io::Result<()> {
+    out.write_all(b"\n")
 }

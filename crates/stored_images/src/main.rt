@@ -1,8 +1,11 @@
 // The stored images on standard input, gathered for the tape store and scattered: what a plain writing gives of them is the file stdout.
 #![tactic(auto)]
 
-use libc::{STDIN_FILENO, STDOUT_FILENO};
+ghost use Rattle.std.specs.Prelude.{◌≤◌, length, IfOk};
+
 use sectors::fnv::digest;
+use std::io;
+use std::io::{BufWriter, Read, Write};
 use tape::store::{gather_sectors, scatter_sectors};
 
 // Bytes of the images: no sector; two sectors and a rest; three sectors.
@@ -12,70 +15,108 @@ const TWO_AND_A_REST: usize = 4829;
 
 const THREE: usize = 6192;
 
+// What Linux answers to a read of a standard input that is closed (EBADF).
+const CLOSED: i32 = 9;
+
+// Reads until the buffer is full or the input ends, and returns how many bytes it put at the buffer's start. A closed input is an empty one.
+fn read_full(input: &mut impl Read, buf: &mut [u8]) -> io::Result<usize>
+    ensures { IfOk result (λ n. n ≤ length buf.new) }
+{
+    let mut done = 0;
+    while done < buf.len() {
+        match input.read(&mut buf[done..]) {
+            Ok(0) => break,
+            Ok(n) => done += n,
+            Err(e) if e.raw_os_error() == Some(CLOSED) => break,
+            Err(e) => return Err(e),
+        }
+    }
+    Ok(done)
+}
+
 // A line of what was done, the refusal, and the digest of the buffer after it.
-fn print_line(done: &[u8], refusal: u8, bytes: &[u8]) {
-    io::write_all(STDOUT_FILENO, done);
-    io::write_all(STDOUT_FILENO, b" ");
-    io::print_decimal(STDOUT_FILENO, refusal as u64);
-    io::write_all(STDOUT_FILENO, b" ");
-    io::print_hex(STDOUT_FILENO, digest(bytes), 16);
-    io::write_all(STDOUT_FILENO, b"\n");
+fn print_line(out: &mut impl Write, done: &str, refusal: u8, bytes: &[u8]) -> io::Result<()> {
+    writeln!(out, "{done} {refusal} {:016x}", digest(bytes))
 }
 
-fn print_gathered(done: &[u8], image: &[u8], out: &mut [u8]) {
+fn print_gathered(
+    output: &mut impl Write,
+    done: &str,
+    image: &[u8],
+    out: &mut [u8],
+) -> io::Result<()> {
     let refusal = gather_sectors(image, out);
-    print_line(done, refusal, out);
+    print_line(output, done, refusal, out)
 }
 
-fn print_scattered(done: &[u8], bytes: &[u8], out: &mut [u8]) {
+fn print_scattered(
+    output: &mut impl Write,
+    done: &str,
+    bytes: &[u8],
+    out: &mut [u8],
+) -> io::Result<()> {
     let refusal = scatter_sectors(bytes, out);
-    print_line(done, refusal, out);
+    print_line(output, done, refusal, out)
 }
 
 // Both ways, and what each gives back.
-fn print_ways(image: &[u8], out: &mut [u8], back: &mut [u8]) {
-    print_gathered(b"gathered", image, out);
-    print_scattered(b"scattered again", out, back);
-    print_scattered(b"scattered", image, out);
-    print_gathered(b"gathered again", out, back);
+fn print_ways(
+    output: &mut impl Write,
+    image: &[u8],
+    out: &mut [u8],
+    back: &mut [u8],
+) -> io::Result<()> {
+    print_gathered(output, "gathered", image, out)?;
+    print_scattered(output, "scattered again", out, back)?;
+    print_scattered(output, "scattered", image, out)?;
+    print_gathered(output, "gathered again", out, back)
 }
 
 // Both ways into a buffer of another length, which stays.
-fn print_refusals(image: &[u8]) {
+fn print_refusals(output: &mut impl Write, image: &[u8]) -> io::Result<()> {
     let mut byte = [0x5Au8; 1];
-    print_gathered(b"gathered into a byte", image, &mut byte);
-    print_scattered(b"scattered into a byte", image, &mut byte);
+    print_gathered(output, "gathered into a byte", image, &mut byte)?;
+    print_scattered(output, "scattered into a byte", image, &mut byte)
 }
 
-fn print_image(image: &mut [u8], out: &mut [u8], back: &mut [u8]) {
-    io::read_full(STDIN_FILENO, image);
-    print_ways(image, out, back);
-    print_refusals(image);
+fn print_image(
+    input: &mut impl Read,
+    output: &mut impl Write,
+    image: &mut [u8],
+    out: &mut [u8],
+    back: &mut [u8],
+) -> io::Result<()> {
+    read_full(input, image)?;
+    print_ways(output, image, out, back)?;
+    print_refusals(output, image)
 }
 
-fn no_sector() {
+fn no_sector(input: &mut impl Read, output: &mut impl Write) -> io::Result<()> {
     let mut image = [0u8; NO_SECTOR];
     let mut out = [0u8; NO_SECTOR];
     let mut back = [0u8; NO_SECTOR];
-    print_image(&mut image, &mut out, &mut back);
+    print_image(input, output, &mut image, &mut out, &mut back)
 }
 
-fn two_sectors_and_a_rest() {
+fn two_sectors_and_a_rest(input: &mut impl Read, output: &mut impl Write) -> io::Result<()> {
     let mut image = [0u8; TWO_AND_A_REST];
     let mut out = [0u8; TWO_AND_A_REST];
     let mut back = [0u8; TWO_AND_A_REST];
-    print_image(&mut image, &mut out, &mut back);
+    print_image(input, output, &mut image, &mut out, &mut back)
 }
 
-fn three_sectors() {
+fn three_sectors(input: &mut impl Read, output: &mut impl Write) -> io::Result<()> {
     let mut image = [0u8; THREE];
     let mut out = [0u8; THREE];
     let mut back = [0u8; THREE];
-    print_image(&mut image, &mut out, &mut back);
+    print_image(input, output, &mut image, &mut out, &mut back)
 }
 
-fn main() {
-    no_sector();
-    two_sectors_and_a_rest();
-    three_sectors();
+fn main(rt: HostRuntime) -> io::Result<()> {
+    let mut input = rt.stdin();
+    let mut output = BufWriter::new(rt.alloc(), rt.stdout())?;
+    no_sector(&mut input, &mut output)?;
+    two_sectors_and_a_rest(&mut input, &mut output)?;
+    three_sectors(&mut input, &mut output)?;
+    output.flush()
 }

@@ -1,41 +1,69 @@
 // The files that the arguments name, each a table, with their listings.
 #![tactic(auto)]
 
-use libc::STDOUT_FILENO;
+ghost use Rattle.std.specs.Prelude.{◌≤◌, length, IfOk};
+
 use listing_text::listing::{LISTING_PAGE, MAX_LISTED, list_table};
+use std::io::{BufWriter, Read, Write};
+use std::rt::Files;
+use std::{env, fs, io};
 
 // One byte more than a table that is listed has.
 const INPUT_BYTES: usize = MAX_LISTED + 1;
 
+// A longer argument counts as an empty one.
+const ARGUMENT_BYTES: usize = 4096;
+
+// Reads until the buffer is full or the file ends, and returns how many bytes it put at the buffer's start.
+fn read_full(file: &mut impl Read, buf: &mut [u8]) -> io::Result<usize>
+    ensures { IfOk result (λ n. n ≤ length buf.new) }
+{
+    let mut done = 0;
+    while done < buf.len() {
+        match file.read(&mut buf[done..])? {
+            0 => break,
+            n => done += n,
+        }
+    }
+    Ok(done)
+}
+
 // Writes the listing of the table in a file.
-fn list_file(fd: i32) {
+fn list_file(out: &mut impl Write, file: &mut impl Read) -> io::Result<()> {
     let mut table = [0u8; INPUT_BYTES];
-    let n = io::read_full(fd, &mut table);
+    let n = read_full(file, &mut table)?;
     let mut page = [0u8; LISTING_PAGE];
     let len = list_table(&table[..n], &mut page);
-    io::write_all(STDOUT_FILENO, &page[..len]);
+    out.write_all(&page[..len])
 }
 
-// Writes an argument, and the listing of the table in the file of that name.
-fn list_argument(i: usize) {
-    let mut name = io::buffer();
-    let n = os::arg(i, &mut name);
-    io::write_all(STDOUT_FILENO, &name[..n]);
-    io::write_all(STDOUT_FILENO, b"\n");
-    let fd = os::open_read(&name[..n]);
-    if fd < 0 {
-        os::fail(&name[..n]);
-        return;
+// Writes an argument, and the listing of the table in the file of that name; where that cannot be opened, a message on standard error.
+fn list_argument<R: Files + Eprint>(rt: &R, out: &mut impl Write, name: &str) -> io::Result<()> {
+    writeln!(out, "{name}")?;
+    match fs::open(rt, name) {
+        Ok(mut file) => list_file(out, &mut file),
+        Err(e) => {
+            out.flush()?;
+            // A message that cannot be written is lost.
+            let _ = eprintln!(rt; "{name}: {e}");
+            Ok(())
+        }
     }
-    list_file(fd);
-    libc::close(fd);
 }
 
-fn main() {
-    let n = os::arg_count();
-    let mut i = 1;
-    while i < n {
-        list_argument(i);
-        i += 1;
+fn main(rt: HostRuntime) -> io::Result<()> {
+    let mut out = BufWriter::new(rt.alloc(), rt.stdout())?;
+    for argument in env::args(&rt)?.skip(1) {
+        let name = argument.as_str();
+        list_argument(
+            &rt,
+            &mut out,
+            if name.len() > ARGUMENT_BYTES {
+                ""
+            } else {
+                name
+            },
+        )?;
     }
+    out.flush()
 }
