@@ -115,7 +115,7 @@ fn it_is_built_once() {
     let built = tree.run(&["IMAGE"]);
     assert_eq!((built.status, built.out), (Some(0), tree.sources()));
     let asked = tree.asked();
-    for word in ["rt staticlib", "cargo build"] {
+    for word in ["rt verdict", "rt lib", "cargo build"] {
         assert_eq!(asked.iter().filter(|asked| *asked == word).count(), 1, "{asked:?}");
     }
     let files = tree.files();
@@ -171,7 +171,7 @@ fn files_that_come_go_and_move_are_noticed() {
     tree.check_noticed("a folder with another name");
     fs::remove_dir_all(tree.path("crates/sectors/proofs")).expect("a folder is removed");
     tree.check_noticed("a folder less");
-    tree.write("crates.txt", "sectors:\nvectors: sectors\nscarletbook: vectors\n");
+    tree.write("crates.txt", "sectors:\nvectors: sectors\nscarletbook staticlib: vectors\n");
     tree.check_noticed("a crate more");
     tree.write("crates/vectors/src/c.rt", "other\n");
     tree.check_noticed("a file of it");
@@ -183,7 +183,7 @@ fn another_rt_and_another_command_are_noticed() {
     tree.rename("rt.other", "bin/rt");
     let proved = tree.run(&["IMAGE"]);
     assert_eq!((proved.status, proved.out), (Some(0), tree.sources()));
-    assert!(tree.asked().contains(&"rt staticlib".to_owned()));
+    assert!(tree.asked().contains(&"rt verdict".to_owned()));
     tree.check_kept();
     tree.write("host/target/command/release/tables", "#!/bin/sh\necho something else\n");
     tree.check_noticed("another command");
@@ -233,7 +233,7 @@ fn sources_that_change_while_it_is_built_are_noticed() {
     for (moment, file, error) in [
         ("at-build", "crates/scarletbook/src/b.rt", changed),
         ("at-build", "host/tables/src/main.rs", changed),
-        ("at-staticlib", "crates/sectors/src/a.rt", "the library could not be built"),
+        ("at-verdict", "crates/sectors/src/a.rt", "the library could not be built"),
     ] {
         // The second time the text is again what it was.
         for after in ["after", "before"] {
