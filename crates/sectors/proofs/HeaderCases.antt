@@ -27,7 +27,7 @@ module _ (format : ℕ) (image : List ℕ) (lsn : ℕ) (two : format ≡ header_
     lies_there = (two, sym there_in_two ∙ found)
 
     module _ {six : List ℕ} (is-part : six ≡ part (lsn * stored_size format + 0) header_size image) where
-      six_is : six ≡ header_at image lsn
+      pub six_is : six ≡ header_at image lsn
       unfolding header_at
       six_is = is-part ∙ (rw (two, add-zero))
 

@@ -6,6 +6,8 @@ pub mod HeaderCases
 pub mod Mending
 pub mod Places
 pub mod Turns
+pub mod SourceTurns
+pub mod PoolCases
 pub mod SignatureLaws
 pub mod SectorLaws
 pub mod SourceLaws
@@ -14,6 +16,7 @@ pub mod XorLaws
 pub mod AlphaLaws
 pub mod HeaderLaws
 pub mod AuditLaws
+pub mod PoolLaws
 pub mod LogLaws
 pub mod ChangeLaws
 pub mod DistanceLaws

@@ -2,11 +2,12 @@
 -- source keeps of it. Assumes nothing.
 use Rattle.std.specs.Prelude.{◌≡◌, ℕ, zero, suc, ◌+◌, ◌*◌, ◌<◌, ◌≤◌, Bool, true, false, List, [], ◌++◌, length, nat_le, slice_index}
 use Rattle.std.proofs.Math.Decide.{ℕ_discrete}
+use Rattle.std.proofs.Math.Numerals.{add-one}
 use Rattle.std.proofs.Common.{arith, sym, ◌∙◌, ap, length-append, leb-true, le-leb}
 use Rattle.std.proofs.Math.Path.{refl}
 use Rattle.std.proofs.Math.Option.{Option, none, some}
-use Rattle.sectors.specs.Options.{only_if, Known}
-use Rattle.sectors.specs.OptionLaws.{some_eq, no_some}
+use Rattle.sectors.specs.Options.{only_if, Known, is_there, given}
+use Rattle.sectors.specs.OptionLaws.{some_eq, no_some, given_known}
 use Rattle.sectors.specs.Format.{stored_size, data_offset, sector_size}
 use Rattle.sectors.specs.Sector.{sector_count, readable, sector_data, run_data}
 use Rattle.sectors.proofs.SectorLaws.{readable_true, is_readable, sector_of_run, run_shorter, sector_length, sector_inside, sector_ext, count_mono}
@@ -121,6 +122,40 @@ sectors_length s z lsn (suc n) b e =
 pub run_of_length : (s : Source) → Sized s → (lsn n : ℕ) (b : List ℕ) → run_of s lsn n ≡ some b → length b ≡ n * sector_size
 run_of_length s z lsn n b e = sectors_length s z lsn n b (run_parts s lsn n b e).1
 
+-- a run of no sectors has no bytes, whether it is there or not
+pub run_none : (s : Source) (lsn : ℕ) → given (run_of s lsn 0) ≡ []
+unfolding run_of sectors_of given
+run_none s lsn = go (nat_le (lsn + 0) s.count)
+  where
+    go : (t : Bool) → given {A = ℕ} (only_if t (some [])) ≡ []
+    go true = refl
+    go false = refl
+
+-- the first sectors of a run that is there, and the next
+module _ (s : Source) (z : Sized s) (lsn count : ℕ) (there : Known (run_of s lsn count)) where
+  pub front_there : (k : ℕ) → k ≤ count → Known (run_of s lsn k)
+  front_there k h =
+      let within = (run_parts s lsn count there.0 there.1).0 in
+      run_there s lsn k (omega arith) (λ i l. run_each s lsn count there.0 there.1 i (omega arith))
+
+  next_known : (k : ℕ) → k < count → Known (s.at (lsn + k))
+  next_known k h = run_each s lsn count there.0 there.1 k h
+
+  pub next_size : (k : ℕ) → k < count → length (given (s.at (lsn + k))) ≡ sector_size
+  next_size k h = z.sized (lsn + k) (given (s.at (lsn + k))) (given_known (s.at (lsn + k)) (next_known k h))
+
+  pub front_size : (k : ℕ) → k ≤ count → length (given (run_of s lsn k)) ≡ k * sector_size
+  front_size k h = run_of_length s z lsn k (given (run_of s lsn k)) (given_known (run_of s lsn k) (front_there k h))
+
+  pub run_next : (k : ℕ) → k < count → given (run_of s lsn (k + 1)) ≡ given (run_of s lsn k) ++ given (s.at (lsn + k))
+  unfolding sectors_of joined given
+  run_next k h =
+      let within = (run_parts s lsn count there.0 there.1).0 in
+      let front = given_known (run_of s lsn k) (front_there k (omega arith)) in
+      let next = given_known (s.at (lsn + k)) (next_known k h) in
+      let e : run_of s lsn (k + 1) ≡ joined (sectors_of s lsn k) (s.at (lsn + k)) = run_from s lsn (k + 1) (omega arith) ∙ rw add-one in
+      ap given (e ∙ (λ i. joined ((sym (run_from s lsn k (omega arith)) ∙ front) i) (next i)))
+
 -- ---- an image
 
 module _ (format : ℕ) (image : List ℕ) where
@@ -166,6 +201,14 @@ module _ (format : ℕ) (image : List ℕ) where
   pub image_no_run : (lsn n : ℕ) → readable format (length image) lsn n ≡ false → run_of (image_source format image) lsn n ≡ none
   unfolding run_of readable image_source
   image_no_run lsn n h = rw h
+
+  pub image_there : (lsn n : ℕ) → is_there (run_of (image_source format image) lsn n) ≡ readable format (length image) lsn n
+  unfolding is_there
+  image_there lsn n = go (readable format (length image) lsn n) refl
+    where
+      go : (t : Bool) → readable format (length image) lsn n ≡ t → is_there (run_of (image_source format image) lsn n) ≡ readable format (length image) lsn n
+      go true e = rw (image_run lsn n e, e)
+      go false e = rw (image_no_run lsn n e, e)
 
 -- What a shorter image's source keeps: a run that it has, with the same data bytes in the longer image, is there too.
 pub cut_kept : (format : ℕ) (a b : List ℕ) (lsn n : ℕ) → length a ≤ length b

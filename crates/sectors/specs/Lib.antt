@@ -11,6 +11,7 @@ pub mod Run
 pub mod Field
 pub mod Header
 pub mod Audit
+pub mod Pool
 pub mod Log
 pub mod Mend
 pub mod Fnv

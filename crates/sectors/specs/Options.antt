@@ -1,5 +1,5 @@
 -- A value or nothing: small functions on `Option`. Assumes nothing.
-use Rattle.std.specs.Prelude.{◌≡◌, Bool, true, false}
+use Rattle.std.specs.Prelude.{◌≡◌, Bool, true, false, List, []}
 use Rattle.std.proofs.Math.Option.{Option, none, some}
 
 module _ {A : Type 0} where
@@ -11,3 +11,13 @@ module _ {A : Type 0} where
   -- there is a value
   abbrev pub Known : Option A → Type 0
   Known x = (a : A) × (x ≡ some a)
+
+  -- whether there is one
+  unfoldable pub is_there : Option A → Bool
+  is_there none = false
+  is_there (some a) = true
+
+  -- a list that is there; else the empty one
+  unfoldable pub given : Option (List A) → List A
+  given none = []
+  given (some l) = l

@@ -1,10 +1,12 @@
 -- Reading a run of sectors into lent memory, and comparing one with it. Assumes nothing.
-use Rattle.std.specs.Prelude.{ℕ, ◌+◌, ◌*◌, cond, ◌&&◌, List, length, take, ◌==◌, nat_le}
+use Rattle.std.specs.Prelude.{ℕ, ◌+◌, ◌*◌, Bool, cond, not, ◌&&◌, List, length, take, ◌==◌, nat_le}
 use Rattle.sectors.specs.Refusal.{foreign_format, short_buffer, no_such_entry}
 use Rattle.sectors.specs.Format.{foreign, sector_size}
 use Rattle.sectors.specs.Sector.{readable, run_data}
 use Rattle.sectors.specs.Bytes.{same}
 use Rattle.sectors.specs.Fill.{fill}
+use Rattle.sectors.specs.Options.{is_there, given}
+use Rattle.sectors.specs.Source.{Source, run_of}
 use Rattle.sectors.specs.declared.run.Comparison.{Comparison}
 
 -- The refusal of a run that is to be read into, or compared with, `size` lent bytes from a place on: "1 | foreign format", "2 | ..
@@ -30,3 +32,16 @@ comparison_of format image lsn count bytes =
           (read_refusal format (length image) lsn count 0 (length bytes) == 0
           && same (run_data format image lsn count) (take (count * sector_size) bytes)) 1 0;
     }
+
+-- ---- of any source
+-- The lent bytes after a run is read into them: it fills them from a place on, if it is there and there is room.
+unfoldable pub run_into : Source → ℕ → ℕ → ℕ → List ℕ → List ℕ
+run_into source lsn count at old =
+    cond (nat_le (at + count * sector_size) (length old) && is_there (run_of source lsn count)) (fill at (given (run_of source lsn count)) old) old
+
+-- Whether a run that is there differs from as many lent bytes, from the first on.
+unfoldable pub run_unequal : Source → ℕ → ℕ → List ℕ → Bool
+run_unequal source lsn count bytes =
+    nat_le (count * sector_size) (length bytes)
+    && is_there (run_of source lsn count)
+    && not (same (given (run_of source lsn count)) (take (count * sector_size) bytes))

@@ -1,6 +1,6 @@
 // The header of a sector of a format 2 image: six bytes, blank when they are zeros, sound when they are another multiple of (x + 1)(x + α).
 ghost use Rattle.std.specs.Prelude.{◌≡◌, ◌↔◌, length};
-ghost use Rattle.sectors.specs.Header.{Sound, Blank, Unsound, at_one, at_alpha, is_multiple, is_blank};
+ghost use Rattle.sectors.specs.Header.{Sound, Blank, Unsound, at_one, at_alpha, is_multiple, is_blank, is_sound};
 ghost use Rattle.sectors.specs.Audit.{HeaderIn, answer_of, audit_of};
 
 use crate::bytes::same_bytes;
@@ -82,6 +82,15 @@ fn is_blank(h: &[u8]) -> bool
 {
     let zeros = [0u8; HEADER_SIZE];
     same_bytes(h, &zeros)
+}
+
+// Whether six bytes are a sound header: a multiple that is not blank.
+#[tactic(auto, unfolding(crate::specs::Header::is_sound))]
+pub(crate) fn is_sound(h: &[u8]) -> bool
+    requires { length h.now ≡ 6 }
+    ensures { result ≡ is_sound h.now }
+{
+    is_multiple(h) & !is_blank(h)
 }
 
 // Audits the header of a sector.

@@ -31,7 +31,7 @@ pub fn is_foreign(format: u32) -> bool
 
 // How sectors are stored in a format; zeros for a foreign one.
 #[tactic(auto, unfolding(crate::specs::Format::layout_of))]
-fn layout_of(format: u32) -> Layout
+pub(crate) fn layout_of(format: u32) -> Layout
     ensures { result ≡ layout_of format }
 {
     match format {
