@@ -74,16 +74,20 @@ fn print_text(rt: &impl Print, table: &[u8], i: u8) -> io::Result<()> {
     Ok(())
 }
 
-// Reads until a buffer is full or the input ends.
+// What Linux answers to a read of a standard input that is closed (EBADF).
+const CLOSED: i32 = 9;
+
+// Reads until a buffer is full or the input ends. A closed input is an empty one.
 fn read_full(rt: &impl Input, buf: &mut [u8]) -> io::Result<()> {
     let mut reader = rt.reader();
     let mut at = 0;
     while at < buf.len() {
-        let n = reader.read(&mut buf[at..])?;
-        if n == 0 {
-            break;
+        match reader.read(&mut buf[at..]) {
+            Ok(0) => break,
+            Ok(n) => at += n,
+            Err(e) if e.raw_os_error() == Some(CLOSED) => break,
+            Err(e) => return Err(e),
         }
-        at += n;
     }
     Ok(())
 }
