@@ -24,7 +24,7 @@ use Rattle.area.proofs.LoneLaws.{by_case, enough_records, enough_words}
 use Rattle.area.specs.Skip.{skip_of}
 use Rattle.area.proofs.StandsLaws.{Shifted, shifted_then, shifted_front, shifted_behind, shifted_map, shifted_flat}
 use Rattle.area.specs.TextPlaces.{any_unterminated}
-use Rattle.area.specs.Table.{Table, area_at, of_slot, dsd64, of_track, frequency_warnings, track_warnings, reads_of, tracks_of, tracks_warnings, yield_of, table_of, area_given, tracks_given, warnings_of, yields}
+use Rattle.area.specs.Table.{Table, area_at, of_slot, dsd64, of_track, frequency_warnings, text_warnings, track_warnings, reads_of, tracks_of, tracks_warnings, yield_of, table_of, area_given, tracks_given, warnings_of, yields}
 use Rattle.area.proofs.TableLaws.{by_skip, area_of, address_tracks, address_warnings, address_playtime, tracks_count, tracks_most, warnings_most, head_skips, area_yields, addressed_track_count, addressed_playtime}
 use Rattle.area.specs.Tabulate.{tabulate}
 use Rattle.area.specs.TabulateLaws.{tabulate_member, map_tabulate}
@@ -32,7 +32,7 @@ use Rattle.area.specs.Timecode.{frame_number}
 use Rattle.area.specs.Track.{capped_times, times_of, track_of}
 use Rattle.area.proofs.TrackLaws.{track_within, track_warned, track_number, text_not_past}
 use Rattle.area.specs.Warning.{word_of, track_past_playtime, track_lsn_outside_area, sample_frequency_unknown, track_text_unterminated}
-use Rattle.area.proofs.WarningLaws.{word_value, in_when, track_warnings_of, table_warnings_of}
+use Rattle.area.proofs.WarningLaws.{word_value, in_when, in_text, track_warnings_of, table_warnings_of}
 use Rattle.area.specs.declared.area.Area.{Area}
 use Rattle.area.specs.declared.chain.Chain.{Chain}
 use Rattle.area.specs.declared.timecode.Timecode.{Timecode}
@@ -109,8 +109,7 @@ module _ (table : List ℕ) (area : Area) (chain : Chain) (slot : ℕ) where
   unfolding track_warnings of_track past_playtime
   shifted_track i =
       shifted_then (shifted_front (fourteen i) past outside (no_fourteen (read i).outside_area track_lsn_outside_area (λ e. omega (arith, e))))
-      (shifted_then (shifted_front (fourteen i) (past ++ outside) text
-      (no_fourteen (not (eqb (read i).text_warning 0)) (read i).text_warning (text_not_past table area chain i)))
+      (shifted_then (shifted_front (fourteen i) (past ++ outside) text no_text_fourteen)
       (shifted_front (fourteen i) (past ++ outside ++ text) unterminated
       (no_fourteen (any_unterminated (read i).track.text) track_text_unterminated (λ e. omega (arith, e)))))
     where
@@ -121,7 +120,7 @@ module _ (table : List ℕ) (area : Area) (chain : Chain) (slot : ℕ) where
       outside = when_true (read i).outside_area (of_track track_lsn_outside_area slot (read i))
 
       text : List Warning
-      text = when_true (not (eqb (read i).text_warning 0)) (of_track (read i).text_warning slot (read i))
+      text = text_warnings slot (read i)
 
       unterminated : List Warning
       unterminated = when_true (any_unterminated (read i).track.text) (of_track track_text_unterminated slot (read i))
@@ -129,6 +128,11 @@ module _ (table : List ℕ) (area : Area) (chain : Chain) (slot : ℕ) where
       -- it is no warning of another code
       no_fourteen : (t : Bool) (code : ℕ) → (code ≡ track_past_playtime → ⊥) → Memᴰ (fourteen i) (when_true t (of_track code slot (read i))) → ⊥
       no_fourteen t code other m = other (sym (ap (λ (w : Warning). w.code) (in_when (fourteen i) t (of_track code slot (read i)) m)))
+
+      no_text_fourteen : Memᴰ (fourteen i) (text_warnings slot (read i)) → ⊥
+      no_text_fourteen m =
+          let found = in_text (fourteen i) slot (read i) m in
+          text_not_past table area chain i found.0 found.1.0 (sym (ap (λ (w : Warning). w.code) found.1.1))
 
   -- by those of so many tracks, and of their table
   module _ (n i : ℕ) (below : i < n) where

@@ -1,8 +1,9 @@
 -- What the lists of `fill_tracks` hold after the first i tracks of a table: none, one track more, and all of them. Assumes nothing.
 --     tracks_to, count_to, words_to      the list of tracks, the count of words and the words after i tracks
 use mathlib.Core.Path.{◌≡◌, refl, sym, ◌∙◌, ap}
-use mathlib.Core.List.{List, [], ◌∷◌, ◌++◌, map, flat_map, map-append, append_assoc, append-nil}
-use Prim.Native.Nat.{ℕ, ◌+◌, ◌≤◌, ◌<◌, ◌^◌}
+use Rattle.std.proofs.lemmas.List.{flat_map_more}
+use mathlib.Core.List.{List, [], ◌∷◌, ◌++◌, map, flat_map, map-append}
+use Prim.Native.Nat.{ℕ, ◌+◌, ◌≤◌}
 use native.Mathlib.Numerals.{add-one}
 use native.Mathlib.Omega.{arith}
 use lib.ListN.{length, set, length-map}
@@ -18,20 +19,10 @@ use Rattle.area.specs.declared.track.Track.{Track}
 use Rattle.area.specs.declared.track.TrackRead.{TrackRead}
 use Rattle.area.specs.declared.warning.Warning.{Warning}
 
-flat_more : {A B : Type 0} (f : A → List B) (xs : List A) (x : A) → flat_map f (xs ++ (x ∷ [])) ≡ flat_map f xs ++ f x
-unfolding flat_map
-flat_more f [] x = append-nil (f x)
-flat_more {A} {B} f (y ∷ xs) x = ap (λ (l : List B). f y ++ l) (flat_more f xs x) ∙ sym (append_assoc (f y) (flat_map f xs) (f x))
-
 -- there are at most 255 tracks
 pub few_tracks : (head : TableHead) → track_count head ≤ 255
 unfolding track_count
 few_tracks head = omega arith
-
--- a count of lent words is a usize
-counted_fits : {A B : Type 0} (old : List A) (at : ℕ) (new : List B) → at < 2 ^ 64 → length old < 2 ^ 64 → counted old at new < 2 ^ 64
-unfolding counted
-counted_fits old at new h₁ h₂ = omega arith
 
 module _ (lent : List ℕ) (head : TableHead) where
   abbrev reads_to : ℕ → List TrackRead
@@ -47,16 +38,12 @@ module _ (lent : List ℕ) (head : TableHead) where
   reads_more i = ap reads_to (add-one i) ∙ tabulate_more i (read_in lent head)
 
   warned_more : (i : ℕ) → warned_to (i + 1) ≡ warned_to i ++ track_warnings slot (read_in lent head i)
-  unfolding tracks_warnings
-  warned_more i = ap (flat_map (track_warnings slot)) (reads_more i) ∙ flat_more (track_warnings slot) (reads_to i) (read_in lent head i)
+  unfolding tracks_warnings flat_map
+  warned_more i = ap (flat_map (track_warnings slot)) (reads_more i) ∙ sym (flat_map_more (track_warnings slot) [] (reads_to i) (read_in lent head i))
 
   module _ (old : List Track) (base : ℕ) where
     unfoldable pub tracks_to : ℕ → List Track
     tracks_to i = sets old base (tracks_of (reads_to i))
-
-    pub length_tracks : (i : ℕ) → length (tracks_to i) ≡ length old
-    unfolding tracks_to
-    length_tracks i = length-sets old base (tracks_of (reads_to i))
 
     pub tracks_none : tracks_to 0 ≡ old
     unfolding tracks_to tracks_of tabulate
@@ -81,11 +68,7 @@ module _ (lent : List ℕ) (head : TableHead) where
     unfoldable pub words_to : ℕ → List ℕ
     words_to i = sets old count (map word_of (warned_to i))
 
-    pub count_fits : count < 2 ^ 64 → length old < 2 ^ 64 → (i : ℕ) → count_to i < 2 ^ 64
-    unfolding count_to
-    count_fits h₁ h₂ i = counted_fits old count (warned_to i) h₁ h₂
-
-    pub length_words : (i : ℕ) → length (words_to i) ≡ length old
+    length_words : (i : ℕ) → length (words_to i) ≡ length old
     unfolding words_to
     length_words i = length-sets old count (map word_of (warned_to i))
 

@@ -1,49 +1,34 @@
--- An item kept over those before it: the two tests of the walk are those of `keep`; and the search for the next one. Assumes nothing.
+-- An item kept over those before it, as the arms of the walk do; and the search for the next one. Assumes nothing.
 use mathlib.Core.Path.{◌≡◌, sym, ap, ◌∙◌}
-use mathlib.Core.Bool.{true, false, cond, ◌&&◌, and-eq-true_iff}
+use Rattle.std.specs.Prelude.{Option}
+use mathlib.Core.Bool.{cond}
 use mathlib.Core.List.{List, []}
 use Prim.Native.Nat.{ℕ, suc, ◌+◌, ◌-◌, ◌≤◌, ◌<◌}
 use native.Mathlib.Omega.{arith}
 use lib.Dec.{ltb}
-use lib.ListN.{length, get_or, set}
-use borrow.Author.Tests.{eq-eqb, ne_eqb, lt-ltb, le-ltb, ltb-true, ltb-false}
+use lib.ListN.{length, get_or}
+use borrow.Author.Tests.{eq-eqb, ne_eqb, lt-ltb, le-ltb}
 use Rattle.sectors.specs.NumberLaws.{be_byte}
 use Rattle.text.specs.String.{string_at}
 use Rattle.area.specs.TestLaws.{cond_same}
 use Rattle.area.specs.Items.{Item, item_at, nonzero_at, next_item, items_from}
 use Rattle.area.specs.ItemLaws.{nonzero_more, nonzero_found, nonzero_end, items_none, items_first}
 use Rattle.area.specs.TextPlaces.{placed_text}
-use Rattle.area.specs.TrackText.{track_texts, item_index, keep, keep_all}
+use Rattle.area.specs.TrackText.{item_index, keep_at, keep, keep_all}
 use Rattle.area.specs.declared.text_places.TextPlace.{TextPlace}
-use Rattle.area.specs.declared.track_text.ItemsKept.{ItemsKept}
+use Rattle.area.specs.declared.track_text.TrackText.{TrackText}
 
--- an item that takes its place is not empty, and of a known type
-pub full_and_known : (len index : ℕ) → (ltb 0 len && ltb index track_texts) ≡ true → (0 < len) × (index < track_texts)
-full_and_known len index e =
-    let both = (and-eq-true_iff (ltb 0 len) (ltb index track_texts)).0 e in (ltb-true _ _ both.0, ltb-true _ _ both.1)
-
-module _ (table : List ℕ) (item : Item) (before : ItemsKept) where
+module _ (table : List ℕ) (item : Item) (before : TrackText) where
   -- an empty item changes nothing
-  pub keep_empty : item.len ≤ 0 → before ≡ keep table item before
+  pub keep_empty : item.len ≡ 0 → before ≡ keep table item before
   unfolding keep
-  keep_empty h = let empty : item.len ≡ 0 = omega arith in simp (eq-eqb _ _ empty)
+  keep_empty empty = simp (eq-eqb _ _ empty)
 
-  module _ {index : ℕ} (is : index ≡ item_index item.kind) where
-    -- one of a known type takes its place
-    pub keep_known : (ltb 0 item.len && ltb index track_texts) ≡ true → {text : TextPlace} → text ≡ placed_text table item.place
-        → record { places = set before.places index text; unknown = before.unknown } ≡ keep table item before
-    unfolding keep
-    keep_known e told =
-        let h = full_and_known item.len index e in let full : item.len ≡ 0 → ⊥ = λ z. omega arith in
-        let below : item_index item.kind < track_texts = omega arith in rw (is, told) (simp (ne_eqb _ _ full, lt-ltb _ _ below))
-
-    -- one of an unknown type is noted
-    pub keep_unknown : (ltb 0 item.len && ltb index track_texts) ≡ false → 0 < item.len
-        → record { places = before.places; unknown = true } ≡ keep table item before
-    unfolding keep
-    keep_unknown e some =
-        let h = ltb-false index track_texts (simp (lt-ltb _ _ some) at e) in let full : item.len ≡ 0 → ⊥ = λ z. omega arith in
-        let past : track_texts ≤ item_index item.kind = omega arith in simp (ne_eqb _ _ full, le-ltb _ _ past)
+  -- another takes the place of its type, or is noted
+  pub keep_full : (item.len ≡ 0 → ⊥) → {index : Option ℕ} → item_index item.kind ≡ index → {text : TextPlace} → text ≡ placed_text table item.place
+      → keep_at index text before ≡ keep table item before
+  unfolding keep
+  keep_full full is told = rw (sym is, told) (simp (ne_eqb _ _ full))
 
 -- the items that are left while the next one is searched for from a place on
 unfoldable pub searched : List ℕ → ℕ → ℕ → List Item
@@ -72,18 +57,18 @@ module _ (table : List ℕ) (at left : ℕ) where
   none_left e = ap (items_from table at) e ∙ items_none table at
 
 -- what is kept in all
-module _ {all : ItemsKept} where
+module _ {all : TrackText} where
   -- the same items are left
-  pub same_left : (table : List ℕ) (before : ItemsKept) {xs ys : List Item} → xs ≡ ys → keep_all table xs before ≡ all → keep_all table ys before ≡ all
+  pub same_left : (table : List ℕ) (before : TrackText) {xs ys : List Item} → xs ≡ ys → keep_all table xs before ≡ all → keep_all table ys before ≡ all
   same_left table before e leads = ap (λ (items : List Item). keep_all table items before) (sym e) ∙ leads
 
   -- none are left
-  pub all_kept : (table : List ℕ) (before : ItemsKept) {xs : List Item} → xs ≡ [] → keep_all table xs before ≡ all → before ≡ all
+  pub all_kept : (table : List ℕ) (before : TrackText) {xs : List Item} → xs ≡ [] → keep_all table xs before ≡ all → before ≡ all
   unfolding keep_all
   all_kept table before e leads = ap (λ (items : List Item). keep_all table items before) (sym e) ∙ leads
 
   -- a turn, as the call finds the item's string and the arms meet with what is kept of it
-  pub kept_turn : (table : List ℕ) (at left : ℕ) (before after : ItemsKept) (string : List ℕ) → at + 2 ≤ length table → 0 < left
+  pub kept_turn : (table : List ℕ) (at left : ℕ) (before after : TrackText) (string : List ℕ) → at + 2 ≤ length table → 0 < left
       → string ≡ string_at table (at + 2) → after ≡ keep table (record { kind = get_or table at 0; place = at + 2; len = length string }) before
       → keep_all table (items_from table at left) before ≡ all
       → keep_all table (searched table (at + 2 + length string) (left - 1)) after ≡ all

@@ -1,6 +1,6 @@
 pub mod Filling
+pub mod Warned
 pub mod Keeping
-pub mod TextArray
 pub mod Walking
 pub mod Consequences
 pub mod SkipLaws

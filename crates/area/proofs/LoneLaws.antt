@@ -1,36 +1,45 @@
--- Laws of reading a lone table: its size, its head, and what its plan, its tracks and its warnings come to. Assumes nothing.
-use Rattle.std.specs.Prelude.{◌≡◌, refl, Bool, true, ◌||◌, ℕ, ◌+◌, ◌*◌, ◌/◌, ◌%◌, ◌≤◌, eqb}
+-- Laws of reading a lone table: its size, its head, and what its head, its tracks and its warnings come to. Assumes nothing.
+use Rattle.std.specs.Prelude.{◌≡◌, refl, Bool, true, ◌||◌, ℕ, ◌*◌, ◌/◌, ◌%◌, ◌≤◌, eqb}
 use Rattle.std.proofs.Math.Path.{sym, ap, subst}
 use Rattle.std.proofs.Common.{◌∙◌, arith}
 use Rattle.std.proofs.Math.Bool.{false, cond}
 use mathlib.Core.List.{List, ◌++◌, map}
 use Rattle.std.proofs.Math.Nat.{zero-add}
-use Rattle.std.proofs.Math.Decide.{ℕ_discrete}
 use Rattle.std.proofs.Math.Dec.{ltb}
 use Rattle.std.proofs.Math.ListN.{length, length-append, length-map}
 use Rattle.std.proofs.Math.Seq.{sets, length-sets}
-use borrow.Author.Tests.{ltb-false, eqb-true, not-false, eq-eqb, ne_eqb}
+use borrow.Author.Tests.{ltb-false, eqb-true, not-false, le-ltb}
 use Rattle.sectors.specs.Fill.{fill}
-use Rattle.sectors.specs.FillLaws.{sets_fill}
+use Rattle.sectors.specs.FillLaws.{fill_none, sets_fill}
 use Rattle.sectors.specs.Format.{sector_size}
 use Rattle.sectors.specs.Refusal.{short_buffer}
 use Rattle.area.specs.TestLaws.{or_left, or_right}
 use Rattle.area.specs.Lent.{counted}
-use Rattle.area.specs.LentLaws.{counted_none, counted_all, sets_counted}
+use Rattle.area.specs.LentLaws.{counted_then, counted_all, sets_counted}
 use Rattle.area.specs.Limits.{max_table_bytes, max_tracks, table_bytes}
 use Rattle.area.specs.LimitLaws.{table_bytes_all}
-use Rattle.area.specs.Refusal.{no_audio_areas, odd_table}
+use Rattle.area.specs.Refusal.{no_audio_areas, odd_table, number_of}
 use Rattle.area.specs.Warning.{word_of}
-use Rattle.area.specs.Area.{no_area}
+use Rattle.area.specs.Area.{record_of}
+use Rattle.area.specs.Chain.{chain_of}
 use Rattle.area.specs.Skip.{skip_of}
-use Rattle.area.specs.Table.{Table, skips, yields, of_slot, area_at, warnings_of, head_of, no_head, head_warnings, tracks_in, warnings_in}
-use Rattle.area.proofs.TableLaws.{head_yields, head_skips, head_skip_warned, head_skip_area, tracks_none, warnings_none, head_warnings_few, tracks_few, warnings_few}
-use Rattle.area.specs.Lone.{is_odd_table, table_words, is_short, lone_slot, lone_sectors, Lone, refused, reads, lone_of, lone_answer, lone_tracks, lone_words}
-use Rattle.area.specs.Plan.{lone_head, refusing, planned, plan_of, plan_words, plan_answer}
-use Rattle.area.specs.declared.lone.Plan.{Plan}
+use Rattle.area.specs.Table.{Table, skips, yields, of_slot, reads_of, yield_of, table_of, with_address, area_at, area_given, tracks_given, warnings_of, head_of, head_warnings, tracks_in, warnings_in}
+use Rattle.area.proofs.TableLaws.{head_yields, head_skips, head_gives_area, head_gives_tracks, head_gives_warnings, head_warnings_few, tracks_few, warnings_few}
+use Rattle.area.specs.Lone.{is_odd_table, table_words, is_short, lone_slot, lone_sectors, lone_head, Lone, refused, reads, lone_of, lone_answer, head_answer, lone_tracks, lone_words}
 use Rattle.area.specs.declared.lone.TableAnswer.{TableAnswer}
+use Rattle.area.specs.declared.refusal.TableRefusal.TheVariants as refusal
+use Rattle.area.specs.declared.table.TableHead.{TableHead}
 use Rattle.area.specs.declared.track.Track.{Track}
 use Rattle.area.specs.declared.warning.Warning.{Warning}
+
+-- ---- the numbers of two refusals, for the layer above
+pub number_no_audio_areas : number_of refusal.NoAudioAreas ≡ no_audio_areas
+unfolding number_of
+number_no_audio_areas = refl
+
+pub number_odd_table : number_of refusal.OddTable ≡ odd_table
+unfolding number_of
+number_odd_table = refl
 
 -- ---- a table that is not odd
 module _ (bytes : ℕ) (sized : is_odd_table bytes ≡ false) where
@@ -111,120 +120,80 @@ module _ (table : List ℕ) (records words : ℕ) where
       by_size true z = subst P (sym (lone_odd z)) (odd z)
       by_size false z = by_room z (is_short records words) refl
 
--- ---- what is decided before the tracks are read, and what the tracks add to it
-module _ (table : List ℕ) (tracks : List Track) (words : List ℕ) (plan : Plan) (noted : List ℕ) (count : ℕ) (filled : List Track) (written : List ℕ)
-    (answer : TableAnswer) (p : plan ≡ plan_of table (length tracks) (length words)) (w : noted ≡ plan_words table (length tracks) words)
-    (n : count ≡ counted noted plan.count (warnings_in table plan.head)) (t : filled ≡ sets tracks 0 (tracks_in table plan.head))
-    (u : written ≡ sets noted plan.count (map word_of (warnings_in table plan.head))) (r : answer ≡ plan_answer plan count) where
-  abbrev Read : Lone → Type 0
-  Read l = (answer ≡ lone_answer l) × ((filled ≡ lone_tracks l tracks) × (written ≡ lone_words l words))
+-- ---- what reading gives, by what the table gives
+given_answer : (t : Table) → lone_answer (reads t) ≡ record { refusal = (lone_answer (reads t)).refusal; warnings = length (warnings_of t); area = area_given t }
+unfolding lone_answer area_given warnings_of
+given_answer (skips warning) = refl
+given_answer (yields area tracks warnings) = refl
 
-  -- without an area the tracks add nothing
-  nothing_read : plan.head.area ≡ no_area → (count ≡ plan.count) × ((filled ≡ tracks) × (written ≡ noted))
-  nothing_read none =
-      let ws = warnings_none table plan.head none in let ts = tracks_none table plan.head none in (
-        n ∙ ap (counted noted plan.count) ws ∙ counted_none Warning noted plan.count,
-        (t ∙ ap (sets tracks 0) ts, u ∙ ap (λ (l : List Warning). sets noted plan.count (map word_of l)) ws),
-      )
+given_tracks : (t : Table) (old : List Track) → lone_tracks (reads t) old ≡ fill 0 (tracks_given t) old
+unfolding lone_tracks tracks_given
+given_tracks (skips warning) old = sym (fill_none 0 old)
+given_tracks (yields area tracks warnings) old = refl
 
-  refused_read : (number : ℕ) → plan ≡ refusing number → noted ≡ words → Read (refused number)
-  unfolding refusing no_head lone_answer lone_tracks lone_words plan_answer
-  refused_read number e same =
-      let rest = nothing_read (ap (λ (q : Plan). q.head.area) e) in (
-        r ∙ (λ i. plan_answer (e i) ((rest.0 ∙ ap (λ (q : Plan). q.count) e) i)),
-        (rest.1.0, rest.1.1 ∙ same),
-      )
+-- 6 exactly if the table is skipped
+given_refusal : (table : List ℕ) (slot lsn sectors : ℕ) → (lone_answer (reads (area_at table slot lsn sectors))).refusal ≡ cond (eqb (skip_of table) 0) 0 no_audio_areas
+unfolding lone_answer area_at table_of yield_of with_address
+given_refusal table slot lsn sectors = go (eqb (skip_of table) 0)
+  where
+    reading : Bool → Lone
+    reading kept = reads (with_address lsn (cond kept (yield_of slot (record_of table slot sectors) (reads_of table (record_of table slot sectors) (chain_of table))) (skips (of_slot (skip_of table) slot))))
 
-  odd_plan : is_odd_table (length table) ≡ true → plan ≡ refusing odd_table
-  unfolding plan_of
-  odd_plan odd = p ∙ simp odd
+    go : (kept : Bool) → (lone_answer (reading kept)).refusal ≡ cond kept 0 no_audio_areas
+    go true = refl
+    go false = refl
 
-  odd_words : is_odd_table (length table) ≡ true → noted ≡ words
-  unfolding plan_words
-  odd_words odd = w ∙ simp odd
+-- ---- a table that is read: its head's warnings are written first, then those of its tracks
+module _ (table : List ℕ) (tracks : List Track) (words : List ℕ) (head : TableHead) (noted written : List ℕ) (at count : ℕ) (filled : List Track)
+    (w : noted ≡ sets words 0 (map word_of (head_warnings lone_slot head))) (a : at ≡ counted words 0 (head_warnings lone_slot head))
+    (n : count ≡ counted noted at (warnings_in table head)) (t : filled ≡ sets tracks 0 (tracks_in table head))
+    (u : written ≡ sets noted at (map word_of (warnings_in table head))) where
+  abbrev warned : List Warning
+  warned = head_warnings lone_slot head ++ warnings_in table head
 
-  short_plan : is_odd_table (length table) ≡ false → is_short (length tracks) (length words) ≡ true → plan ≡ refusing short_buffer
-  unfolding plan_of
-  short_plan sized short = p ∙ simp (sized, short)
+  module _ (records : max_tracks ≤ length tracks) (room : table_words ≤ length words) where
+    few : length warned ≤ length words
+    few = omega (arith, length-append (head_warnings lone_slot head) (warnings_in table head), head_warnings_few lone_slot head, warnings_few table head)
 
-  short_words : is_odd_table (length table) ≡ false → is_short (length tracks) (length words) ≡ true → noted ≡ words
-  unfolding plan_words
-  short_words sized short = w ∙ simp (sized, short)
-
-  module _ (sized : is_odd_table (length table) ≡ false) (room : is_short (length tracks) (length words) ≡ false) where
-    planned_so : plan ≡ planned (lone_head table)
-    unfolding plan_of lone_head
-    planned_so = p ∙ simp (sized, room)
-
-    noted_so : noted ≡ fill 0 (map word_of (head_warnings lone_slot (lone_head table))) words
-    unfolding plan_words lone_head
-    noted_so = w ∙ simp (sized, room)
-
-    skipped_read : ((lone_head table).skip ≡ 0 → ⊥) → Read (reads (skips (of_slot (lone_head table).skip lone_slot)))
-    unfolding lone_head head_of planned plan_answer lone_answer lone_tracks lone_words warnings_of
-    skipped_read skipped =
-        let area = head_skip_area table lone_slot 0 (lone_sectors table) skipped in
-        let given = head_skip_warned table lone_slot 0 (lone_sectors table) skipped in
-        let rest = nothing_read (ap (λ (q : Plan). q.head.area) planned_so ∙ area) in
-        let one : count ≡ 1 = rest.0 ∙ ap (λ (q : Plan). q.count) planned_so ∙ ap length given in (
-          r ∙ (λ i. plan_answer (planned_so i) (one i)) ∙ (λ i. record { refusal = cond (ne_eqb (skip_of table) 0 skipped i) 0 no_audio_areas; warnings = 1; area = area i }),
-          (rest.1.0, rest.1.1 ∙ noted_so ∙ ap (λ (l : List Warning). fill 0 (map word_of l) words) given),
-        )
-
-    -- ---- with an area, its warnings follow the head's
-    abbrev first : List Warning
-    first = head_warnings lone_slot (lone_head table)
-
-    abbrev rest : List Warning
-    rest = warnings_in table (lone_head table)
-
-    few : length first + length rest ≤ length words
-    few =
-        let h = head_warnings_few lone_slot (lone_head table) in let k = warnings_few table (lone_head table) in let m = enough_words (length tracks) (length words) room in omega arith
-
-    noted_run : noted ≡ sets words 0 (map word_of first)
-    noted_run = let k = few in noted_so ∙ sym (sets_fill 0 (map word_of first) words (omega (arith, length-map first word_of)))
-
-    all_counted : count ≡ length (first ++ rest)
-    unfolding planned
+    all_counted : count ≡ length warned
     all_counted =
-        let long = ap length noted_run ∙ length-sets words 0 (map word_of first) in let k = few in
-        n ∙ (λ i. counted noted (planned_so i).count (warnings_in table (planned_so i).head))
-        ∙ counted_all noted (length first) rest (omega arith) ∙ sym (length-append first rest)
+        n ∙ (λ i. counted (w i) (a i) (warnings_in table head))
+        ∙ counted_then words _ 0 (head_warnings lone_slot head) (warnings_in table head) (length-sets words 0 (map word_of (head_warnings lone_slot head)))
+        ∙ counted_all words 0 warned (omega (arith, few)) ∙ zero-add (length warned)
 
-    all_filled : filled ≡ fill 0 (tracks_in table (lone_head table)) tracks
-    unfolding planned
-    all_filled =
-        let k = tracks_few table (lone_head table) in let m = enough_records (length tracks) (length words) room in
-        t ∙ ap (λ (q : Plan). sets tracks 0 (tracks_in table q.head)) planned_so ∙ sets_fill 0 (tracks_in table (lone_head table)) tracks (omega arith)
-
-    all_written : written ≡ fill 0 (map word_of (first ++ rest)) words
-    unfolding planned
+    all_written : written ≡ fill 0 (map word_of warned) words
     all_written =
-        let k = few in let m = length-append first rest in
-        u ∙ (λ i. sets (noted_run i) (planned_so i).count (map word_of (warnings_in table (planned_so i).head)))
-        ∙ ap (λ (at : ℕ). sets (sets words 0 (map word_of first)) at (map word_of rest)) (sym (counted_all words 0 first (omega arith) ∙ zero-add (length first)))
-        ∙ sets_counted word_of words 0 first rest ∙ sets_fill 0 (map word_of (first ++ rest)) words (omega (arith, length-map (first ++ rest) word_of))
+        u ∙ (λ i. sets (w i) (a i) (map word_of (warnings_in table head))) ∙ sets_counted word_of words 0 (head_warnings lone_slot head) (warnings_in table head)
+        ∙ sets_fill 0 (map word_of warned) words (omega (arith, few, length-map warned word_of))
 
-    yielded_read : (lone_head table).skip ≡ 0 → Read (reads (yields (lone_head table).area (tracks_in table (lone_head table)) (first ++ rest)))
-    unfolding planned plan_answer lone_answer lone_tracks lone_words warnings_of
-    yielded_read kept = (
-      r ∙ (λ i. plan_answer (planned_so i) (all_counted i))
-          ∙ (λ i. record { refusal = cond (eq-eqb (lone_head table).skip 0 kept i) 0 no_audio_areas; warnings = length (first ++ rest); area = (lone_head table).area }),
-      (all_filled, all_written),
-    )
+    all_filled : filled ≡ fill 0 (tracks_in table head) tracks
+    all_filled = t ∙ sets_fill 0 (tracks_in table head) tracks (omega (arith, tracks_few table head))
 
-  -- plan, tracks and warnings are those of the lone table
-  pub lone_read : Read (lone_of table (length tracks) (length words))
-  unfolding lone_head head_of
-  lone_read =
-      by_case table (length tracks) (length words) Read (λ odd. refused_read odd_table (odd_plan odd) (odd_words odd))
-      (λ sized short. refused_read short_buffer (short_plan sized short) (short_words sized short))
-      (λ sized room. go sized room (ℕ_discrete (skip_of table) 0))
-    where
-      go : is_odd_table (length table) ≡ false → is_short (length tracks) (length words) ≡ false → Dec (skip_of table ≡ 0)
-          → Read (reads (area_at table lone_slot 0 (lone_sectors table)))
-      go sized room (yes kept) =
-          subst (λ (x : Table). Read (reads x)) (sym (head_yields table table lone_slot 0 (lone_sectors table) (lone_bytes table sized) kept)) (yielded_read sized room kept)
-      go sized room (no skipped) =
-          subst (λ (x : Table). Read (reads x)) (sym (head_skips table lone_slot 0 (lone_sectors table) skipped)) (skipped_read sized room skipped)
+    -- .. which is what reading gives
+    pub table_read : (sized : is_odd_table (length table) ≡ false)
+        → head ≡ head_of (table_bytes (length table / sector_size) table) lone_slot 0 (length table / sector_size)
+        → (answer : TableAnswer) → answer ≡ head_answer head count
+        → (answer ≡ lone_answer (lone_of table (length tracks) (length words)))
+        × ((filled ≡ lone_tracks (lone_of table (length tracks) (length words)) tracks) × (written ≡ lone_words (lone_of table (length tracks) (length words)) words))
+    unfolding lone_sectors head_of lone_words is_short head_answer
+    table_read sized h answer r =
+        let sectors = length table / sector_size in let whole = lone_bytes table sized in
+        let its : head ≡ head_of table lone_slot 0 sectors = h ∙ ap (λ (bytes : List ℕ). head_of bytes lone_slot 0 sectors) whole in
+        let given = area_at table lone_slot 0 sectors in
+        let reading : lone_of table (length tracks) (length words) ≡ reads given = lone_reads table (length tracks) (length words) sized (simp (le-ltb _ _ records, le-ltb _ _ room)) in
+        let its_warned : warned ≡ warnings_of given =
+        ap (λ (x : TableHead). head_warnings lone_slot x ++ warnings_in table x) its ∙ sym (head_gives_warnings table table lone_slot 0 sectors whole) in (
+          r ∙ (λ i. head_answer (its i) ((all_counted ∙ ap length its_warned) i))
+              ∙ (λ i. record {
+                refusal = sym (given_refusal table lone_slot 0 sectors) i;
+                warnings = length (warnings_of given);
+                area = sym (head_gives_area table table lone_slot 0 sectors whole) i;
+              })
+              ∙ sym (given_answer given) ∙ ap lone_answer (sym reading),
+          (
+            all_filled ∙ ap (λ (x : TableHead). fill 0 (tracks_in table x) tracks) its
+                ∙ ap (λ (l : List Track). fill 0 l tracks) (sym (head_gives_tracks table table lone_slot 0 sectors whole)) ∙ sym (given_tracks given tracks)
+                ∙ ap (λ (l : Lone). lone_tracks l tracks) (sym reading),
+            all_written ∙ ap (λ (l : List Warning). fill 0 (map word_of l) words) its_warned ∙ ap (λ (l : Lone). lone_words l words) (sym reading),
+          ),
+        )

@@ -4,7 +4,7 @@
 -- Assumes nothing.
 use Prim.Native.Nat.{ℕ, zero, suc, ◌+◌, ◌*◌, ◌≤◌, ◌<◌, min}
 use Rattle.std.proofs.Common.{zero-add, arith, true≢false, inl, inr, sym, ◌∙◌, length-drop, ext_get_or, get_or-drop}
-use Rattle.std.specs.Prelude.{Bool, cond, not, ◌&&◌, ◌≢◌, ◌⊎◌, ◌≡◌, leb, ltb, eqb, get_or, drop}
+use Rattle.std.specs.Prelude.{Bool, cond, not, ◌&&◌, ◌≢◌, ◌⊎◌, ◌≡◌, leb, ltb, eqb, get_or, drop, Option, None, Some, option_map, option_to_list}
 use Rattle.std.proofs.Math.Bool.{true, false, and-eq-true_iff}
 use mathlib.Core.List.{List, [], ◌∷◌, ◌++◌, map, flat_map, map-append}
 use Rattle.std.proofs.Math.Path.{refl, ap}
@@ -26,7 +26,7 @@ use Rattle.area.specs.Lent.{when_true}
 use Rattle.area.specs.Limits.{max_tracks}
 use Rattle.area.specs.Locale.{max_locales, locales_offset, code_at, locale_at, locale_or, locales_at}
 use Rattle.area.specs.Skip.{is_malformed, skip_by, skip_of}
-use Rattle.area.specs.Table.{Table, skips, of_slot, frequency_warnings, of_track, track_warnings, reads_of, tracks_of, tracks_warnings, yield_of, table_of, with_address, area_at, area_given, tracks_given, warnings_of}
+use Rattle.area.specs.Table.{Table, skips, of_slot, frequency_warnings, of_track, text_warnings, track_warnings, reads_of, tracks_of, tracks_warnings, yield_of, table_of, with_address, area_at, area_given, tracks_given, warnings_of}
 use Rattle.area.specs.Tabulate.{tabulate}
 use Rattle.area.specs.TabulateLaws.{tabulate_ext}
 use Rattle.area.specs.Timecode.{timecode_at}
@@ -37,10 +37,12 @@ use Rattle.area.specs.Units.{lsn_at}
 use Rattle.area.specs.declared.area.Area.{Area}
 use Rattle.area.specs.declared.chain.Chain.{Chain}
 use Rattle.area.specs.declared.chain.Structure.{Structure}
-use Rattle.area.specs.declared.chain.Structure.TheVariants.{TrackText, IsrcGenre, Access, TrackList1, TrackList2, Other}
+use Rattle.area.specs.declared.chain.Structure.TheVariants.{TrackText, IsrcGenre, Access, TrackList1, TrackList2}
 use Rattle.area.specs.declared.track.TrackRead.{TrackRead}
-use Rattle.area.specs.declared.track_text.ItemsKept.{ItemsKept}
+use Rattle.area.specs.declared.track_text.TrackText.{TrackText as KeptTexts}
+use Rattle.area.specs.Warning.{number_of}
 use Rattle.area.specs.declared.warning.Warning.{Warning}
+use Rattle.area.specs.declared.warning.WarningCode.{WarningCode}
 
 -- two tables that differ in their first eight bytes at most
 pub record SameBehind (s t : List ℕ) : Type 0 where
@@ -49,34 +51,11 @@ pub record SameBehind (s t : List ℕ) : Type 0 where
 
 -- a record without the signature's number and the origin
 unfoldable pub bare_area : Area → Area
-bare_area a = record {
-  present = a.present;
-  origin = record { slot = 0; toc_lsn = record { 0 = 0 }; toc_sectors = 0 };
-  kind = 0;
-  version = a.version;
-  max_byte_rate = a.max_byte_rate;
-  sample_frequency_code = a.sample_frequency_code;
-  frame_format = a.frame_format;
-  channel_count = a.channel_count;
-  area_config = a.area_config;
-  max_available_channels = a.max_available_channels;
-  area_mute_flags = a.area_mute_flags;
-  track_attribute = a.track_attribute;
-  playtime = a.playtime;
-  track_offset = a.track_offset;
-  track_count = a.track_count;
-  audio_start_lsn = a.audio_start_lsn;
-  audio_end_lsn = a.audio_end_lsn;
-  text_channel_count = a.text_channel_count;
-  locale_count = a.locale_count;
-  locales = a.locales;
-  text_charset = a.text_charset;
-  text = a.text;
-}
+bare_area a = record a { origin = record { slot = 0; toc_lsn = record { 0 = 0 }; toc_sectors = 0 }; kind = 0 }
 
 -- a warning without its slot
 unfoldable pub bare_warning : Warning → Warning
-bare_warning w = record { code = w.code; slot = 0; track = w.track }
+bare_warning w = record w { slot = 0 }
 
 -- ---- without their slot, warnings are those of slot 0
 
@@ -85,9 +64,18 @@ unfolding when_true
 bare_when true w = refl
 bare_when false w = refl
 
+bare_text : (slot : ℕ) (read : TrackRead) → map bare_warning (text_warnings slot read) ≡ text_warnings 0 read
+unfolding text_warnings of_track bare_warning
+bare_text slot read = go read.text_warning
+  where
+    go : (o : Option WarningCode) → map bare_warning (option_to_list (option_map (λ (code : WarningCode). of_track (number_of code) slot read) o))
+        ≡ option_to_list (option_map (λ (code : WarningCode). of_track (number_of code) 0 read) o)
+    go (Some code) = refl
+    go None = refl
+
 bare_track : (slot : ℕ) (read : TrackRead) → map bare_warning (track_warnings slot read) ≡ track_warnings 0 read
 unfolding track_warnings of_track bare_warning
-bare_track slot read = simp (map-append, bare_when)
+bare_track slot read = simp (map-append, bare_when, bare_text)
 
 bare_tracks : (slot : ℕ) (reads : List TrackRead) → map bare_warning (tracks_warnings slot reads) ≡ tracks_warnings 0 reads
 unfolding tracks_warnings flat_map
@@ -156,22 +144,19 @@ noted_behind IsrcGenre at c h b = b
 noted_behind Access at c h b = b
 noted_behind TrackList1 at c h b = b
 noted_behind TrackList2 at c h b = b
-noted_behind Other at c h b = b
 
 walk_behind : (more : ℕ) (table : List ℕ) (at : ℕ) (c : Chain) → 8 ≤ at → Behind c.ttxt → Behind (walk_from more table at c).ttxt
 unfolding walk_from
 walk_behind zero table at c h b = b
 walk_behind (suc more) table at c h b =
-    go (leb (at + 8) (length table)) (eqb (sectors_of (structure_at table at)) 0)
-    (walk_behind more table (at + sectors_of (structure_at table at) * sector_size) (noted (structure_at table at) at c) (omega arith) (noted_behind (structure_at table at) at c h b))
+    go (leb (at + 8) (length table)) (structure_at table at)
+    (λ s. walk_behind more table (at + sectors_of s * sector_size) (noted s at c) (omega arith) (noted_behind s at c h b))
   where
-    further : Chain
-    further = walk_from more table (at + sectors_of (structure_at table at) * sector_size) (noted (structure_at table at) at c)
-
-    go : (fits stops : Bool) → Behind further.ttxt → Behind (cond fits (cond stops c further) c).ttxt
-    go false stops f = b
-    go true true f = b
-    go true false f = f
+    go : (fits : Bool) (o : Option Structure) → ((s : Structure) → Behind (walk_from more table (at + sectors_of s * sector_size) (noted s at c)).ttxt)
+        → Behind (cond fits (elim o [ None ↦ c | Some s ↦ walk_from more table (at + sectors_of s * sector_size) (noted s at c) ]) c).ttxt
+    go false o further = b
+    go true None further = b
+    go true (Some s) further = further s
 
 text_behind_lem : (table : List ℕ) → Behind (chain_of table).ttxt
 unfolding chain_of nothing_kept
@@ -220,7 +205,15 @@ module _ (s t : List ℕ) (same : SameBehind s t) where
   unfolding walk_from
   walk zero at c h = refl
   walk (suc more) at c h =
-      rw (same.same_length, structure at h, walk more (at + sectors_of (structure_at t at) * sector_size) (noted (structure_at t at) at c) (omega arith))
+      rw (same.same_length, structure at h) (ap (λ (next : Chain). cond (leb (at + 8) (length t)) next c)
+      (go (structure_at t at) (λ x. walk more (at + sectors_of x * sector_size) (noted x at c) (omega arith))))
+    where
+      go : (o : Option Structure)
+          → ((x : Structure) → walk_from more s (at + sectors_of x * sector_size) (noted x at c) ≡ walk_from more t (at + sectors_of x * sector_size) (noted x at c))
+          → ◌≡◌ {A = Chain} (elim o [ None ↦ c | Some x ↦ walk_from more s (at + sectors_of x * sector_size) (noted x at c) ])
+          (elim o [ None ↦ c | Some x ↦ walk_from more t (at + sectors_of x * sector_size) (noted x at c) ])
+      go None further = refl
+      go (Some x) further = further x
 
   chain : chain_of s ≡ chain_of t
   unfolding chain_of
@@ -242,7 +235,7 @@ module _ (s t : List ℕ) (same : SameBehind s t) where
   abbrev SameEnds : Type 0
   SameEnds = (place : ℕ) → end_of s place ≡ end_of t place
 
-  kept : SameEnds → (all : List Item) (before : ItemsKept) → keep_all s all before ≡ keep_all t all before
+  kept : SameEnds → (all : List Item) (before : KeptTexts) → keep_all s all before ≡ keep_all t all before
   unfolding keep_all keep placed_text
   kept ends [] before = refl
   kept ends (item ∷ all) before = rw (ends item.place) (kept ends all (keep t item before))

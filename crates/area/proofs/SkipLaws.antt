@@ -1,5 +1,5 @@
 -- Laws of which tables are skipped. Assumes nothing.
-use Rattle.std.specs.Prelude.{ℕ, ◌*◌, ◌≤◌, Bool, cond, List, ◌⊎◌, ◌≡◌, eqb, length, get_or}
+use Rattle.std.specs.Prelude.{ℕ, ◌*◌, ◌≤◌, Bool, cond, List, ◌⊎◌, ◌≡◌, eqb, length, get_or, Some}
 use native.Mathlib.Omega.{arith}
 use Rattle.std.proofs.Math.Bool.{true, false}
 use Rattle.std.proofs.Math.Logic.{◌≢◌}
@@ -65,13 +65,13 @@ module _ (table : List ℕ) (long : length table ≡ 3 * sector_size) (signed : 
     other : (tried : List ℕ) → length tried ≡ 8 → (i : ℕ) → (get_or signature i 0 ≡ get_or tried i 0 → ⊥) → signed_at table at tried ≡ false
     other tried n i differ = signed_other table at signature tried here (n ∙ sym eight) (λ e. differ (ap (λ (l : List ℕ). get_or l i 0) e))
 
-  structure_first : structure_at table sector_size ≡ TrackList1
+  structure_first : structure_at table sector_size ≡ Some TrackList1
   unfolding structure_at
   structure_first =
       let not = other sector_size track_list1_signature refl first in
       rw (not track_text_signature refl 5 (omega arith), not isrc_genre_signature refl 4 (omega arith), not access_signature refl 4 (omega arith), first)
 
-  structure_second : structure_at table (2 * sector_size) ≡ TrackList2
+  structure_second : structure_at table (2 * sector_size) ≡ Some TrackList2
   unfolding structure_at
   structure_second =
       let not = other (2 * sector_size) track_list2_signature refl second in

@@ -1,6 +1,6 @@
 -- Laws of what a table gives: how many tracks and warnings, where the sector count and the address stand, and what a head leads to.
 -- Assumes nothing.
-use Rattle.std.specs.Prelude.{◌≡◌, Bool, cond, not, ◌⊎◌, get_or}
+use Rattle.std.specs.Prelude.{◌≡◌, Bool, cond, not, ◌⊎◌, get_or, Option, None, Some, option_map, option_to_list}
 use Rattle.std.proofs.Math.Path.{refl, sym, ap, subst}
 use Rattle.std.proofs.Common.{◌∙◌, inl, inr, arith, suc-mul, lt-ltb, eq-eqb, ne_eqb, eqb-true}
 use Rattle.std.proofs.Math.Bool.{true, false}
@@ -20,15 +20,16 @@ use Rattle.area.specs.Area.{track_count_offset, record_of, addressed, no_area}
 use Rattle.area.specs.Skip.{skip_of}
 use Rattle.area.specs.Track.{track_of, no_track}
 use Rattle.area.proofs.TrackLaws.{track_number}
-use Rattle.area.specs.Warning.{track_past_playtime, track_lsn_outside_area, sample_frequency_unknown, track_text_unterminated}
+use Rattle.area.specs.Warning.{number_of, track_past_playtime, track_lsn_outside_area, sample_frequency_unknown, track_text_unterminated}
 use Rattle.area.specs.TextPlaces.{any_unterminated}
-use Rattle.area.specs.Table.{Table, skips, yields, of_slot, dsd64, of_track, frequency_warnings, track_warnings, reads_of, tracks_of, tracks_warnings, yield_of, table_of, with_address, area_at, area_given, tracks_given, warnings_of, head_of, no_head, head_warnings, track_count, read_in, reads_in, tracks_in, warnings_in}
+use Rattle.area.specs.Table.{Table, skips, yields, of_slot, dsd64, of_track, frequency_warnings, text_warnings, track_warnings, reads_of, tracks_of, tracks_warnings, yield_of, table_of, with_address, area_at, area_given, tracks_given, warnings_of, head_of, no_head, head_warnings, track_count, read_in, reads_in, tracks_in, warnings_in}
 use Rattle.area.specs.declared.area.Area.{Area}
 use Rattle.area.specs.declared.chain.Chain.{Chain}
 use Rattle.area.specs.declared.table.TableHead.{TableHead}
 use Rattle.area.specs.declared.track.Track.{Track}
 use Rattle.area.specs.declared.track.TrackRead.{TrackRead}
 use Rattle.area.specs.declared.warning.Warning.{Warning}
+use Rattle.area.specs.declared.warning.WarningCode.{WarningCode}
 
 when_few : {A : Type 0} (t : Bool) (x : A) → length (when_true t x) ≤ 1
 unfolding when_true
@@ -43,19 +44,21 @@ head_warnings_few slot head = go (eqb head.skip 0)
     go true = when_few (not (eqb head.area.sample_frequency_code dsd64)) (of_slot sample_frequency_unknown slot)
     go false = omega arith
 
-four_few : {A : Type 0} (a b c d : Bool) (x y z w : A)
-    → length (when_true a x ++ when_true b y ++ when_true c z ++ when_true d w) ≤ max_track_warnings
-four_few a b c d x y z w =
-    let l = length-append (when_true a x ++ when_true b y ++ when_true c z) (when_true d w) in
-    let m = length-append (when_true a x ++ when_true b y) (when_true c z) in let n = length-append (when_true a x) (when_true b y) in
-    let p = when_few a x in let q = when_few b y in let r = when_few c z in let s = when_few d w in omega arith
+some_few : {A : Type 0} (o : Option A) → length (option_to_list o) ≤ 1
+some_few (Some x) = omega arith
+some_few None = omega arith
+
+four_few : {A : Type 0} (xs ys zs ws : List A) → length xs ≤ 1 → length ys ≤ 1 → length zs ≤ 1 → length ws ≤ 1
+    → length (xs ++ ys ++ zs ++ ws) ≤ max_track_warnings
+four_few xs ys zs ws p q r s =
+    let l = length-append (xs ++ ys ++ zs) ws in let m = length-append (xs ++ ys) zs in let n = length-append xs ys in omega arith
 
 pub track_warnings_few : (slot : ℕ) (read : TrackRead) → length (track_warnings slot read) ≤ max_track_warnings
-unfolding track_warnings
+unfolding track_warnings text_warnings
 track_warnings_few slot read =
-    four_few read.past_playtime read.outside_area (not (eqb read.text_warning 0)) (any_unterminated read.track.text)
-    (of_track track_past_playtime slot read) (of_track track_lsn_outside_area slot read) (of_track read.text_warning slot read)
-    (of_track track_text_unterminated slot read)
+    four_few _ _ _ _ (when_few read.past_playtime (of_track track_past_playtime slot read)) (when_few read.outside_area (of_track track_lsn_outside_area slot read))
+    (some_few (option_map (λ (code : WarningCode). of_track (number_of code) slot read) read.text_warning))
+    (when_few (any_unterminated read.track.text) (of_track track_text_unterminated slot read))
 
 -- lists of so many entries at most, one after another
 pub flat_few : {A B : Type 0} (f : A → List B) (n : ℕ) (xs : List A) → ((x : A) → Memᴰ x xs → length (f x) ≤ n) → length (flat_map f xs) ≤ length xs * n

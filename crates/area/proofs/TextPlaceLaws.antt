@@ -1,6 +1,6 @@
 -- Laws of the texts of a record: each is absent, or present and says how its string ended; and whether one is unterminated. Assumes nothing.
 use Prim.Native.Nat.{ℕ, zero, suc, ◌+◌, ◌*◌, ◌<◌}
-use Rattle.std.specs.Prelude.{Bool, cond, ◌&&◌, ◌||◌, ◌⊎◌, ◌≡◌, eqb, ltb, leb, set, replicate}
+use Rattle.std.specs.Prelude.{Bool, cond, Option, Some, None, ◌&&◌, ◌||◌, ◌⊎◌, ◌≡◌, eqb, ltb, leb, set, replicate}
 use Rattle.std.proofs.Math.Bool.{true, false, not, or-true}
 use Rattle.std.proofs.lemmas.Bool.{false≢true, eqb-false}
 use mathlib.Core.List.Memᴰ
@@ -17,10 +17,10 @@ use Rattle.area.specs.Items.{item_at, next_item, items_from}
 use Rattle.area.specs.Tabulate.{tabulate}
 use Rattle.area.specs.TabulateLaws.{tabulate_member}
 use Rattle.area.specs.TextPlaces.{no_text_place, placed_text, is_absent, text_place_at, is_unterminated, any_unterminated}
-use Rattle.area.specs.TrackText.{track_texts, item_index, no_places, no_items, keep, keep_all, items_kept, no_text, text_of, text_offset, text_at, text_behind, track_text_of}
-use Rattle.area.specs.Warning.{track_text_offset_invalid}
+use Rattle.area.specs.TrackText.{track_texts, item_index, no_places, no_items, keep_at, keep, keep_all, items_kept, no_text, text_offset, text_at, text_behind, track_text_of}
 use Rattle.area.specs.declared.text_places.TextPlace.{TextPlace}
-use Rattle.area.specs.declared.track_text.ItemsKept.{ItemsKept}
+use Rattle.area.specs.declared.track_text.TrackText.{TrackText}
+use Rattle.area.specs.declared.warning.WarningCode.TheVariants.{TrackTextOffsetInvalid}
 
 module _ (table : List ℕ) where
   -- a text is told by the bytes of its string
@@ -71,33 +71,32 @@ module _ (table : List ℕ) where
   set_told (x ∷ xs) (suc k) new is told t m =
       ⊎_elim (λ e. told t (Memᴰ.head e)) (set_told xs k new is (λ u l. told u (Memᴰ.tail l)) t) (Memᴰ.cases_cons m)
 
-  keep_told : (at : ℕ) (before : ItemsKept) → AllTold before.places → AllTold (keep table (item_at table at) before).places
+  keep_at_told : (index : Option ℕ) (new : TextPlace) (before : TrackText) → Told new → AllTold before.places → AllTold (keep_at index new before).places
+  unfolding keep_at
+  keep_at_told (Some k) new before is told = set_told before.places k new is told
+  keep_at_told None new before is told = told
+
+  keep_told : (at : ℕ) (before : TrackText) → AllTold before.places → AllTold (keep table (item_at table at) before).places
   unfolding keep item_at placed_text
-  keep_told at before told = go (eqb n 0) refl (ltb index track_texts)
+  keep_told at before told = go (eqb n 0) refl
     where
       n : ℕ
       n = length (string_at table (at + 2))
 
-      index : ℕ
-      index = item_index (be_at table at 1)
-
       new : TextPlace
       new = record { place = at + 2; end = end_of table (at + 2) }
 
-      go : (empty : Bool) → eqb n 0 ≡ empty → (known : Bool)
-          → AllTold (cond empty before (cond known (record { places = set before.places index new; unknown = before.unknown })
-          (record { places = before.places; unknown = true }))).places
-      go true z known = told
-      go false z false = told
-      go false z true = set_told before.places index new (let some = eqb-false n 0 z in inr (omega arith, (omega arith, refl))) told
+      go : (empty : Bool) → eqb n 0 ≡ empty → AllTold (cond empty before (keep_at (item_index (be_at table at 1)) new before)).places
+      go true z = told
+      go false z = keep_at_told _ new before (let some = eqb-false n 0 z in inr (omega arith, (omega arith, refl))) told
 
-  items_told : (left at : ℕ) (before : ItemsKept) → AllTold before.places → AllTold (keep_all table (items_from table at left) before).places
+  items_told : (left at : ℕ) (before : TrackText) → AllTold before.places → AllTold (keep_all table (items_from table at left) before).places
   unfolding keep_all items_from
   items_told zero at before told = told
   items_told (suc left) at before told =
       go (leb (at + 2) (length table)) (ltb (next_item table at) (length table)) (items_told left (next_item table at) kept (keep_told at before told))
     where
-      kept : ItemsKept
+      kept : TrackText
       kept = keep table (item_at table at) before
 
       go : (two more : Bool) → AllTold (keep_all table (items_from table (next_item table at) left) kept).places
@@ -107,13 +106,13 @@ module _ (table : List ℕ) where
       go false more later = told
 
   pub track_told : (block i : ℕ) → AllTold (track_text_of table block i).places
-  unfolding track_text_of text_behind text_at no_text text_of items_kept no_items no_places
+  unfolding track_text_of text_behind text_at no_text items_kept no_places
   track_told block i =
       let offset = text_offset table block i in let count = be_at table (block + offset) 1 in let at = block + offset + 4 in
       go (eqb block 0) (eqb offset 0) (ltb (length table) at) (items_kept table at count) (items_told count at no_items (none_told track_texts))
     where
-      go : (none silent cut : Bool) (kept : ItemsKept) → AllTold kept.places
-          → AllTold (cond none (no_text 0) (cond silent (no_text 0) (cond cut (no_text track_text_offset_invalid) (text_of kept)))).places
+      go : (none silent cut : Bool) (kept : TrackText) → AllTold kept.places
+          → AllTold (cond none (no_text None) (cond silent (no_text None) (cond cut (no_text (Some TrackTextOffsetInvalid)) kept))).places
       go true silent cut kept told = none_told track_texts
       go false true cut kept told = none_told track_texts
       go false false true kept told = none_told track_texts

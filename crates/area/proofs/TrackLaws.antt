@@ -1,39 +1,63 @@
 -- Laws of one track: its times, its warning of them, its number. Assumes nothing.
-use Rattle.std.specs.Prelude.{◌≡◌, ◌⊎◌, Bool, true, false, cond, List, ℕ, ◌+◌, ◌≤◌, ltb, eqb, length}
+use Rattle.std.specs.Prelude.{◌≡◌, ◌⊎◌, Bool, true, false, cond, Option, None, Some, List, [], ◌∷◌, ℕ, ◌+◌, ◌≤◌, ltb, eqb, length}
+use Rattle.std.specs.Option.{option_map_or}
 use Rattle.std.proofs.Math.Path.{refl}
-use Rattle.std.proofs.Common.{inl, inr, arith}
+use Rattle.std.proofs.Common.{inl, inr, subst, arith}
 use Rattle.sectors.specs.Number.{be_at}
-use Rattle.area.specs.Warning.{track_text_offset_invalid, track_text_type_unknown, track_past_playtime}
-use Rattle.area.specs.TrackText.{items_kept, no_text, text_of, text_offset, text_at, text_behind, track_text_of}
+use Rattle.area.specs.Items.{Item, items_from}
+use Rattle.area.specs.TextPlaces.{placed_text}
+use Rattle.area.specs.Warning.{number_of, track_text_offset_invalid, track_text_type_unknown, track_past_playtime}
+use Rattle.area.specs.TrackText.{item_index, no_items, keep_at, keep, keep_all, items_kept, no_text, text_offset, text_at, text_behind, track_text_of}
 use Rattle.area.specs.Timecode.{frame_number}
 use Rattle.area.specs.Cap.{exceeds}
 use Rattle.area.specs.CapLaws.{cap_within, cap_warned}
 use Rattle.area.specs.Track.{stored_times, capped_times, times_of, track_of, no_track}
 use Rattle.area.specs.declared.area.Area.{Area}
 use Rattle.area.specs.declared.chain.Chain.{Chain}
-use Rattle.area.specs.declared.track_text.ItemsKept.{ItemsKept}
+use Rattle.area.specs.declared.track_text.TrackText.{TrackText}
+use Rattle.area.specs.declared.warning.WarningCode.{WarningCode}
+use Rattle.area.specs.declared.warning.WarningCode.TheVariants.{TrackTextOffsetInvalid, TrackTextTypeUnknown}
 
--- the codes of what a track is warned of its text: none, 12 or 13
+-- the codes of what a track is warned of its text: 12 or 13
 abbrev pub TextCode : ℕ → Type 0
-TextCode n = (n ≡ 0) ⊎ ((n ≡ track_text_offset_invalid) ⊎ (n ≡ track_text_type_unknown))
+TextCode n = (n ≡ track_text_offset_invalid) ⊎ (n ≡ track_text_type_unknown)
 
-unknown_code : (unknown : Bool) → TextCode (cond unknown track_text_type_unknown 0)
-unknown_code true = inr (inr refl)
-unknown_code false = inl refl
+abbrev pub TextCoded : Option WarningCode → Type 0
+TextCoded w = (code : WarningCode) → w ≡ Some code → TextCode (number_of code)
 
-code_of : (none silent cut : Bool) (kept : ItemsKept)
-    → TextCode (cond none (no_text 0) (cond silent (no_text 0) (cond cut (no_text track_text_offset_invalid) (text_of kept)))).warning
-unfolding no_text text_of
-code_of true silent cut kept = inl refl
-code_of false true cut kept = inl refl
-code_of false false true kept = inr (inl refl)
-code_of false false false kept = unknown_code kept.unknown
+none_coded : TextCoded None
+none_coded code e = absurd cc
 
--- none of them is that of the times
+some_coded : (code : WarningCode) → TextCode (number_of code) → TextCoded (Some code)
+some_coded code is other e = subst (λ (o : Option WarningCode). TextCode (option_map_or number_of o (number_of code))) e is
+
+-- the items give 13 or nothing
+keep_coded : (table : List ℕ) (item : Item) (before : TrackText) → TextCoded before.warning → TextCoded (keep table item before).warning
+unfolding keep keep_at number_of
+keep_coded table item before coded = go (eqb item.len 0) (item_index item.kind)
+  where
+    go : (empty : Bool) (index : Option ℕ) → TextCoded (cond empty before (keep_at index (placed_text table item.place) before)).warning
+    go true index = coded
+    go false (Some k) = coded
+    go false None = some_coded TrackTextTypeUnknown (inr refl)
+
+all_coded : (table : List ℕ) (items : List Item) (before : TrackText) → TextCoded before.warning → TextCoded (keep_all table items before).warning
+unfolding keep_all
+all_coded table [] before coded = coded
+all_coded table (item ∷ items) before coded = all_coded table items (keep table item before) (keep_coded table item before coded)
+
+coded_by : (none silent cut : Bool) (kept : TrackText) → TextCoded kept.warning
+    → TextCoded (cond none (no_text None) (cond silent (no_text None) (cond cut (no_text (Some TrackTextOffsetInvalid)) kept))).warning
+unfolding no_text number_of
+coded_by true silent cut kept coded = none_coded
+coded_by false true cut kept coded = none_coded
+coded_by false false true kept coded = some_coded TrackTextOffsetInvalid (inl refl)
+coded_by false false false kept coded = coded
+
+-- neither of them is that of the times
 code_not_past : (n : ℕ) → TextCode n → n ≡ track_past_playtime → ⊥
 code_not_past n (inl q) e = omega (arith, q, e)
-code_not_past n (inr (inl q)) e = omega (arith, q, e)
-code_not_past n (inr (inr q)) e = omega (arith, q, e)
+code_not_past n (inr q) e = omega (arith, q, e)
 
 module _ (table : List ℕ) (area : Area) (chain : Chain) (i : ℕ) where
   -- start plus duration is at most the play time
@@ -52,14 +76,14 @@ module _ (table : List ℕ) (area : Area) (chain : Chain) (i : ℕ) where
   unfolding track_of
   track_number = refl
 
-  pub text_code : TextCode (track_of table area chain i).text_warning
-  unfolding track_of track_text_of text_behind text_at
+  pub text_code : TextCoded (track_of table area chain i).text_warning
+  unfolding track_of track_text_of text_behind text_at items_kept no_text
   text_code =
-      let block = chain.ttxt in let offset = text_offset table block i in
-      code_of (eqb block 0) (eqb offset 0) (ltb (length table) (block + offset + 4)) (items_kept table (block + offset + 4) (be_at table (block + offset) 1))
+      let block = chain.ttxt in let offset = text_offset table block i in let items = items_from table (block + offset + 4) (be_at table (block + offset) 1) in
+      coded_by (eqb block 0) (eqb offset 0) (ltb (length table) (block + offset + 4)) (keep_all table items no_items) (all_coded table items no_items none_coded)
 
-  pub text_not_past : (track_of table area chain i).text_warning ≡ track_past_playtime → ⊥
-  text_not_past e = code_not_past (track_of table area chain i).text_warning text_code e
+  pub text_not_past : (code : WarningCode) → (track_of table area chain i).text_warning ≡ Some code → number_of code ≡ track_past_playtime → ⊥
+  text_not_past code some e = code_not_past (number_of code) (text_code code some) e
 
 -- what stands past the end of a list has no number
 pub no_track_number : no_track.number ≡ 0

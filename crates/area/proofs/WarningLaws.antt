@@ -1,9 +1,9 @@
 -- Laws of warnings: their words, whose they are, and which codes they have. Assumes nothing.
-use Rattle.std.specs.Prelude.{◌≡◌, Bool, cond, not, ◌⊎◌, eqb}
+use Rattle.std.specs.Prelude.{◌≡◌, Bool, cond, not, ◌⊎◌, eqb, Option, None, Some, option_map, option_to_list}
 use Rattle.std.proofs.Math.Path.{refl, subst}
 use Rattle.std.proofs.Common.{sym, ap, ◌∙◌, inl, inr, ⊎_elim, arith, lt-ltb}
 use Rattle.std.proofs.Math.Bool.{true, false}
-use Rattle.std.proofs.lemmas.Bool.{false≢true, eqb-false, not-true}
+use Rattle.std.proofs.lemmas.Bool.{false≢true}
 use mathlib.Core.List.Memᴰ
 use mathlib.Core.List.{List, [], ◌∷◌, ◌++◌, flat_map, Memᴰ}
 use Prim.Native.Nat.{ℕ, ◌+◌, ◌*◌, ◌≤◌, ◌<◌, min}
@@ -14,20 +14,21 @@ use Rattle.area.specs.Area.{record_of}
 use Rattle.area.specs.Chain.{chain_of}
 use Rattle.area.specs.Skip.{skip_of}
 use Rattle.area.proofs.SkipLaws.{SkipCode, skip_code}
-use Rattle.area.specs.Warning.{word_of, area_signature_invalid, track_past_playtime, track_lsn_outside_area, sample_frequency_unknown, track_text_unterminated}
+use Rattle.area.specs.Warning.{number_of, word_of, area_signature_invalid, track_past_playtime, track_lsn_outside_area, sample_frequency_unknown, track_text_unterminated}
 use Rattle.area.specs.TabulateLaws.{tabulate_member}
 use Rattle.area.specs.TextPlaces.{any_unterminated}
 use Rattle.area.proofs.TextPlaceLaws.{AllTold, track_told, Unterminated, any_comes, any_only}
-use Rattle.area.specs.Table.{of_slot, dsd64, frequency_warnings, head_warnings, of_track, track_warnings, reads_of, tracks_warnings, yield_of, table_of, warnings_of, track_count, read_in, warnings_in}
+use Rattle.area.specs.Table.{of_slot, dsd64, frequency_warnings, head_warnings, of_track, text_warnings, track_warnings, reads_of, tracks_warnings, yield_of, table_of, warnings_of, track_count, read_in, warnings_in}
 use Rattle.area.proofs.TableLaws.{by_skip, warnings_in_lem}
 use Rattle.area.specs.Track.{track_of}
-use Rattle.area.proofs.TrackLaws.{TextCode, text_code, track_number}
+use Rattle.area.proofs.TrackLaws.{TextCode, TextCoded, text_code, track_number}
 use Rattle.area.specs.declared.area.Area.{Area}
 use Rattle.area.specs.declared.chain.Chain.{Chain}
 use Rattle.area.specs.declared.table.TableHead.{TableHead}
 use Rattle.area.specs.declared.text_places.TextPlace.{TextPlace}
 use Rattle.area.specs.declared.track.TrackRead.{TrackRead}
 use Rattle.area.specs.declared.warning.Warning.{Warning}
+use Rattle.area.specs.declared.warning.WarningCode.{WarningCode}
 
 pub word_value : (w : Warning) → word_of w ≡ w.code * 65536 + w.slot * 256 + w.track
 unfolding word_of
@@ -74,9 +75,20 @@ head_warnings_of slot head w m = go (eqb head.skip 0) m
     go true h = told sample_frequency_unknown (in_when w (not (eqb head.area.sample_frequency_code dsd64)) (of_slot sample_frequency_unknown slot) h)
     go false h = told head.skip (in_one w (of_slot head.skip slot) h)
 
--- What holds of each warning that a track may have holds of all that it has: 14, 15, the text's code where that is not 0, and 19.
+-- an entry of the warnings of a track's text
+pub in_text : (w : Warning) (slot : ℕ) (read : TrackRead) → Memᴰ w (text_warnings slot read)
+    → (code : WarningCode) × ((read.text_warning ≡ Some code) × (w ≡ of_track (number_of code) slot read))
+unfolding text_warnings
+in_text w slot read = go read.text_warning refl
+  where
+    go : (o : Option WarningCode) → read.text_warning ≡ o → Memᴰ w (option_to_list (option_map (λ (code : WarningCode). of_track (number_of code) slot read) o))
+        → (code : WarningCode) × ((read.text_warning ≡ Some code) × (w ≡ of_track (number_of code) slot read))
+    go (Some code) e m = (code, (e, in_one w (of_track (number_of code) slot read) m))
+    go None e m = absurd (Memᴰ.not-nil m)
+
+-- What holds of each warning that a track may have holds of all that it has: 14, 15, that of its text, and 19.
 each_of_track : (P : Warning → Type 0) (slot : ℕ) (read : TrackRead) → P (of_track track_past_playtime slot read) → P (of_track track_lsn_outside_area slot read)
-    → ((read.text_warning ≡ 0 → ⊥) → P (of_track read.text_warning slot read))
+    → ((code : WarningCode) → read.text_warning ≡ Some code → P (of_track (number_of code) slot read))
     → (any_unterminated read.track.text ≡ true → P (of_track track_text_unterminated slot read)) → (w : Warning) → Memᴰ w (track_warnings slot read) → P w
 unfolding track_warnings
 each_of_track P slot read is-past is-outside is-text is-unterminated w m = four (Memᴰ.append_cases (past ++ outside ++ text) m)
@@ -88,7 +100,7 @@ each_of_track P slot read is-past is-outside is-text is-unterminated w m = four 
     outside = when_true read.outside_area (of_track track_lsn_outside_area slot read)
 
     text : List Warning
-    text = when_true (not (eqb read.text_warning 0)) (of_track read.text_warning slot read)
+    text = text_warnings slot read
 
     two : Memᴰ w past ⊎ Memᴰ w outside → P w
     two (inl h) = subst P (sym (in_when w read.past_playtime (of_track track_past_playtime slot read) h)) is-past
@@ -96,9 +108,7 @@ each_of_track P slot read is-past is-outside is-text is-unterminated w m = four 
 
     three : Memᴰ w (past ++ outside) ⊎ Memᴰ w text → P w
     three (inl h) = two (Memᴰ.append_cases past h)
-    three (inr h) =
-        let code = read.text_warning in let warned = when_passed w (not (eqb code 0)) (of_track code slot read) h in
-        subst P (sym (in_when w (not (eqb code 0)) (of_track code slot read) h)) (is-text (eqb-false code 0 (not-true (eqb code 0) warned)))
+    three (inr h) = let found = in_text w slot read h in subst P (sym found.1.1) (is-text found.0 found.1.0)
 
     four : Memᴰ w (past ++ outside ++ text) ⊎ Memᴰ w (when_true (any_unterminated read.track.text) (of_track track_text_unterminated slot read)) → P w
     four (inl h) = three (Memᴰ.append_cases (past ++ outside) h)
@@ -111,7 +121,7 @@ pub track_warnings_of : (slot : ℕ) (read : TrackRead) (w : Warning) → Memᴰ
     → (w.slot ≡ slot) × (w.track ≡ read.track.number)
 unfolding of_track
 track_warnings_of slot read =
-    each_of_track (λ w. (w.slot ≡ slot) × (w.track ≡ read.track.number)) slot read (refl, refl) (refl, refl) (λ some. (refl, refl)) (λ any. (refl, refl))
+    each_of_track (λ w. (w.slot ≡ slot) × (w.track ≡ read.track.number)) slot read (refl, refl) (refl, refl) (λ code some. (refl, refl)) (λ any. (refl, refl))
 
 -- ---- 19 is among them exactly if a text of the track's record ended by 4,096 bytes or with its table
 module _ (table : List ℕ) (area : Area) (chain : Chain) (i slot : ℕ) where
@@ -126,9 +136,8 @@ module _ (table : List ℕ) (area : Area) (chain : Chain) (i slot : ℕ) where
       → Memᴰ (of_track track_text_unterminated slot (track_of table area chain i)) (track_warnings slot (track_of table area chain i))
   unfolding track_warnings
   nineteen_comes t m u =
-      let code = its_read.text_warning in
       Memᴰ.append_right (when_true its_read.past_playtime (of_track track_past_playtime slot its_read)
-      ++ when_true its_read.outside_area (of_track track_lsn_outside_area slot its_read) ++ when_true (not (eqb code 0)) (of_track code slot its_read))
+      ++ when_true its_read.outside_area (of_track track_lsn_outside_area slot its_read) ++ text_warnings slot its_read)
       (when_in (of_track track_text_unterminated slot its_read) (any_unterminated its_read.track.text) (any_comes table its_read.track.text t m u))
 
   pub nineteen_only : (w : Warning) → Memᴰ w (track_warnings slot (track_of table area chain i)) → w.code ≡ track_text_unterminated
@@ -138,13 +147,12 @@ module _ (table : List ℕ) (area : Area) (chain : Chain) (i slot : ℕ) where
     where
       not_text : (n : ℕ) → TextCode n → n ≡ track_text_unterminated → ⊥
       not_text n (inl q) e = omega (arith, q, e)
-      not_text n (inr (inl q)) e = omega (arith, q, e)
-      not_text n (inr (inr q)) e = omega (arith, q, e)
+      not_text n (inr q) e = omega (arith, q, e)
 
       passed : (w : Warning) → Memᴰ w (track_warnings slot its_read) → w.code ≡ track_text_unterminated → any_unterminated its_read.track.text ≡ true
       passed =
           each_of_track (λ w. w.code ≡ track_text_unterminated → any_unterminated its_read.track.text ≡ true) slot its_read (λ e. absurd (omega (arith, e)))
-          (λ e. absurd (omega (arith, e))) (λ some e. absurd (not_text its_read.text_warning (text_code table area chain i) e)) (λ any e. any)
+          (λ e. absurd (omega (arith, e))) (λ code some e. absurd (not_text (number_of code) (text_code table area chain i code some) e)) (λ any e. any)
 
 -- ---- an entry of a list of lists
 pub flat_member : {A B : Type 0} (f : A → List B) (xs : List A) {y : B} → Memᴰ y (flat_map f xs) → (x : A) × (Memᴰ x xs × Memᴰ y (f x))
@@ -174,10 +182,9 @@ warnings_in_of lent head w m =
 abbrev pub TableCode : ℕ → Type 0
 TableCode n = ((area_signature_invalid ≤ n) × (n ≤ track_lsn_outside_area)) ⊎ ((n ≡ sample_frequency_unknown) ⊎ (n ≡ track_text_unterminated))
 
-text_coded : (n : ℕ) → TextCode n → (n ≡ 0 → ⊥) → TableCode n
-text_coded n (inl e) some = absurd (some e)
-text_coded n (inr (inl e)) some = inl (omega (arith, e), omega (arith, e))
-text_coded n (inr (inr e)) some = inl (omega (arith, e), omega (arith, e))
+text_coded : (n : ℕ) → TextCode n → TableCode n
+text_coded n (inl e) = inl (omega (arith, e), omega (arith, e))
+text_coded n (inr e) = inl (omega (arith, e), omega (arith, e))
 
 skip_coded : (n : ℕ) → SkipCode n → (n ≡ 0 → ⊥) → TableCode n
 skip_coded n (inl e) some = absurd (some e)
@@ -186,10 +193,10 @@ skip_coded n (inr (inr (inl e))) some = inl (omega (arith, e), omega (arith, e))
 skip_coded n (inr (inr (inr (inl e)))) some = inl (omega (arith, e), omega (arith, e))
 skip_coded n (inr (inr (inr (inr e)))) some = inl (omega (arith, e), omega (arith, e))
 
-track_coded : (slot : ℕ) (read : TrackRead) → TextCode read.text_warning → (w : Warning) → Memᴰ w (track_warnings slot read) → TableCode w.code
+track_coded : (slot : ℕ) (read : TrackRead) → TextCoded read.text_warning → (w : Warning) → Memᴰ w (track_warnings slot read) → TableCode w.code
 unfolding of_track
 track_coded slot read text =
-    each_of_track (λ w. TableCode w.code) slot read (inl (omega arith, omega arith)) (inl (omega arith, omega arith)) (text_coded read.text_warning text)
+    each_of_track (λ w. TableCode w.code) slot read (inl (omega arith, omega arith)) (inl (omega arith, omega arith)) (λ code some. text_coded (number_of code) (text code some))
     (λ any. inr (inr refl))
 
 -- ---- What holds of the warning that skips a table, of that of its frequency, and of those of each track, holds of all its warnings.

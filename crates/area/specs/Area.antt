@@ -1,6 +1,6 @@
 -- The record of an area (01, "Area": "Fixed fields, locales (at most 10) and area texts stand at the offsets in `read_area`").
 -- Assumes nothing.
-use Rattle.std.specs.Prelude.{ℕ, ◌+◌, ◌*◌, cond, List, [], ◌∷◌, replicate}
+use Rattle.std.specs.Prelude.{ℕ, ◌+◌, ◌*◌, cond, List, [], ◌∷◌, replicate, Option, Some, None}
 use Rattle.std.specs.Int.Bits.{bit_and}
 use Rattle.sectors.specs.Number.{be_at}
 use Rattle.sectors.specs.Signature.{signed_at}
@@ -10,6 +10,8 @@ use Rattle.area.specs.Units.{lsn_at}
 use Rattle.area.specs.Timecode.{timecode_at}
 use Rattle.area.specs.Locale.{max_locales, no_locale, locales_at, locale_count}
 use Rattle.area.specs.declared.area.Area.{Area}
+use Rattle.area.specs.declared.area.Kind.{Kind}
+use Rattle.area.specs.declared.area.Kind.TheVariants.{TwoChannel, Multichannel}
 use Rattle.area.specs.declared.text_places.TextPlace.{TextPlace}
 
 -- `TWOCHTOC`, `MULCHTOC`
@@ -25,6 +27,12 @@ two_channel = 1
 
 abbrev pub multichannel : ℕ
 multichannel = 2
+
+-- the number of each, 0 for neither
+unfoldable pub kind_number : Option Kind → ℕ
+kind_number None = 0
+kind_number (Some TwoChannel) = two_channel
+kind_number (Some Multichannel) = multichannel
 
 -- "signature neither `TWOCHTOC` nor `MULCHTOC`": 0; else the signature's number. "Either signature serves either slot."
 unfoldable pub kind_of : List ℕ → ℕ
@@ -84,30 +92,7 @@ record_of table slot sectors = record {
 
 -- a record with its address
 unfoldable pub addressed : ℕ → Area → Area
-addressed lsn a = record {
-  present = a.present;
-  origin = record { slot = a.origin.slot; toc_lsn = record { 0 = lsn }; toc_sectors = a.origin.toc_sectors };
-  kind = a.kind;
-  version = a.version;
-  max_byte_rate = a.max_byte_rate;
-  sample_frequency_code = a.sample_frequency_code;
-  frame_format = a.frame_format;
-  channel_count = a.channel_count;
-  area_config = a.area_config;
-  max_available_channels = a.max_available_channels;
-  area_mute_flags = a.area_mute_flags;
-  track_attribute = a.track_attribute;
-  playtime = a.playtime;
-  track_offset = a.track_offset;
-  track_count = a.track_count;
-  audio_start_lsn = a.audio_start_lsn;
-  audio_end_lsn = a.audio_end_lsn;
-  text_channel_count = a.text_channel_count;
-  locale_count = a.locale_count;
-  locales = a.locales;
-  text_charset = a.text_charset;
-  text = a.text;
-}
+addressed lsn a = record a { origin = record a.origin { toc_lsn = record { 0 = lsn } } }
 
 -- "every number in the record of a slot without an area, are zero"
 unfoldable pub no_area : Area

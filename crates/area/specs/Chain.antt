@@ -1,10 +1,10 @@
 -- The walk over a table's sub-structures (01, "Area"). Assumes nothing.
-use Rattle.std.specs.Prelude.{ℕ, zero, suc, ◌+◌, ◌*◌, ◌/◌, cond, List, [], ◌∷◌, leb, eqb, length}
+use Rattle.std.specs.Prelude.{ℕ, zero, suc, ◌+◌, ◌*◌, ◌/◌, cond, List, [], ◌∷◌, leb, eqb, length, Option, Some, None}
 use Rattle.sectors.specs.Format.{sector_size}
 use Rattle.sectors.specs.Signature.{signed_at}
 use Rattle.area.specs.declared.chain.Chain.{Chain}
 use Rattle.area.specs.declared.chain.Structure.{Structure}
-use Rattle.area.specs.declared.chain.Structure.TheVariants.{TrackText, IsrcGenre, Access, TrackList1, TrackList2, Other}
+use Rattle.area.specs.declared.chain.Structure.TheVariants.{TrackText, IsrcGenre, Access, TrackList1, TrackList2}
 
 -- `SACDTTxt`, `SACD_IGL`, `SACD_ACC`, `SACDTRL1`, `SACDTRL2`
 abbrev pub track_text_signature : List ℕ
@@ -23,22 +23,21 @@ abbrev pub track_list2_signature : List ℕ
 track_list2_signature = 83 ∷ 65 ∷ 67 ∷ 68 ∷ 84 ∷ 82 ∷ 76 ∷ 50 ∷ []
 
 -- the sub-structure that the signature at a place names
-unfoldable pub structure_at : List ℕ → ℕ → Structure
+unfoldable pub structure_at : List ℕ → ℕ → Option Structure
 structure_at table at =
-    cond (signed_at table at track_text_signature) TrackText
-    (cond (signed_at table at isrc_genre_signature) IsrcGenre
-    (cond (signed_at table at access_signature) Access
-    (cond (signed_at table at track_list1_signature) TrackList1
-    (cond (signed_at table at track_list2_signature) TrackList2 Other))))
+    cond (signed_at table at track_text_signature) (Some TrackText)
+    (cond (signed_at table at isrc_genre_signature) (Some IsrcGenre)
+    (cond (signed_at table at access_signature) (Some Access)
+    (cond (signed_at table at track_list1_signature) (Some TrackList1)
+    (cond (signed_at table at track_list2_signature) (Some TrackList2) None))))
 
--- "`SACDTTxt` .., `SACDTRL1`, `SACDTRL2` .. advance 1 sector, `SACD_IGL` .. 2, `SACD_ACC` 32; else stop": 0 sectors
+-- "`SACDTTxt` .., `SACDTRL1`, `SACDTRL2` .. advance 1 sector, `SACD_IGL` .. 2, `SACD_ACC` 32"
 unfoldable pub sectors_of : Structure → ℕ
 sectors_of TrackText = 1
 sectors_of IsrcGenre = 2
 sectors_of Access = 32
 sectors_of TrackList1 = 1
 sectors_of TrackList2 = 1
-sectors_of Other = 0
 
 -- "`SACDTTxt` (first kept)". (No structure begins at place 0, which stands for none.)
 unfoldable pub first_kept : ℕ → ℕ → ℕ
@@ -51,15 +50,16 @@ noted IsrcGenre at c = record { ttxt = c.ttxt; igl = at; trl1 = c.trl1; trl2 = c
 noted Access at c = c
 noted TrackList1 at c = record { ttxt = c.ttxt; igl = c.igl; trl1 = at; trl2 = c.trl2 }
 noted TrackList2 at c = record { ttxt = c.ttxt; igl = c.igl; trl1 = c.trl1; trl2 = at }
-noted Other at c = c
 
--- "Walk .. while 8 bytes fit": from a place on, with what was kept so far, over at most `more` structures
+-- "Walk .. while 8 bytes fit: .. else stop.": from a place on, with what was kept so far, over at most `more` structures
 unfoldable pub walk_from : ℕ → List ℕ → ℕ → Chain → Chain
 walk_from zero table at c = c
 walk_from (suc more) table at c =
     cond (leb (at + 8) (length table))
-    (cond (eqb (sectors_of (structure_at table at)) 0) c
-    (walk_from more table (at + sectors_of (structure_at table at) * sector_size) (noted (structure_at table at) at c)))
+    (elim (structure_at table at) [
+      | None ↦ c
+      | Some structure ↦ walk_from more table (at + sectors_of structure * sector_size) (noted structure at c)
+    ])
     c
 
 unfoldable pub nothing_kept : Chain

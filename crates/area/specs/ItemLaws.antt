@@ -1,21 +1,42 @@
 -- Laws of the items of a track's text: the next nonzero byte, what a draw gives, and that the walk unfolds by a draw. Assumes nothing.
-use Prim.Native.Nat.{ℕ, zero, suc, ◌+◌, ◌≤◌, ◌<◌}
-use Rattle.std.specs.Prelude.{Bool, ◌≡◌, ltb, length, get_or}
+use Prim.Native.Nat.{ℕ, zero, suc, ◌+◌, ◌-◌, ◌≤◌, ◌<◌}
+use Rattle.std.specs.Prelude.{Bool, ◌≡◌, ltb, eqb, not, length, drop, get_or, nat_lt, position, take_while, unwrap_or, Option, Some, None}
+use Rattle.std.specs.List.{prefix_len}
+use Rattle.std.proofs.lemmas.List.Quantifiers.{position-Some}
+use Rattle.std.proofs.lemmas.List.Sums.{prefix_len-le-length, prefix_len_is}
+use Rattle.std.proofs.lemmas.Bool.Decides.{nat_tests}
 use Rattle.std.proofs.Math.Bool.{true, false, cond}
-use Rattle.std.proofs.lemmas.Bool.{false≢true}
-use Rattle.std.proofs.Common.{true≢false, subst, ◌∙◌}
+use Rattle.std.proofs.Common.{subst, ◌∙◌, length-drop}
 use mathlib.Core.List.{List, [], ◌∷◌}
 use Rattle.std.proofs.Math.Path.{refl, sym, ap}
 use native.Mathlib.Omega.{arith}
-use borrow.Author.Tests.{eq-eqb, ne_eqb, le-leb, lt-leb, leb-true, leb-false}
+use borrow.Author.Tests.{eq-eqb, ne_eqb, le-leb, lt-leb, leb-true, leb-false, lt-ltb, le-ltb}
 use Rattle.std.proofs.Math.Dec.{leb}
 use Rattle.sectors.specs.Fill.{part}
 use Rattle.sectors.specs.Number.{be_at}
 use Rattle.text.specs.String.{string_at}
-use Rattle.text.proofs.StringLaws.{string_part}
-use Rattle.text.specs.WhileLaws.{scan_more, scan_stop, scan_end}
-use Rattle.area.specs.Items.{Item, item_at, is_zero, nonzero_at, next_item, items_from, drawn_none, draw_at, item_of}
+use Rattle.text.proofs.StringLaws.{string_part, string_within}
+use Rattle.text.specs.WhileLaws.{scan_more, scan_stop, scan_end, while_length, while_passes, while_stops}
+use Rattle.area.specs.Items.{Item, item_at, is_zero, nonzero_at, next_item, items_from, draw_at, item_of}
 use Rattle.area.specs.declared.items.Drawn.{Drawn}
+
+-- an answer is none, or has one value
+none_some : (d : Drawn) → None ≡ Some d → ⊥
+none_some d e = cc
+
+some_own : (x y : Drawn) → Some x ≡ Some y → x ≡ y
+some_own x y e = cc
+
+-- how many zero bytes stand before the first other one
+pub before_nonzero : (l : List ℕ) → length (take_while is_zero l) ≡ unwrap_or (position (λ b. not (eqb b 0)) l) (length l)
+unfolding is_zero
+before_nonzero l =
+    sym (prefix_len_is (λ b. not (not (eqb b 0))) l (length (take_while is_zero l)) 0 (while_length is_zero l)
+    (λ k below. ap (λ t. not (not t)) (while_passes is_zero l k 0 below)) (λ more. ap (λ t. not (not t)) (while_stops is_zero l 0 more)))
+    ∙ sym (by_position (prefix_len (λ b. not (not (eqb b 0))) l) (prefix_len-le-length (λ b. not (not (eqb b 0))) l))
+  where
+    by_position : (n : ℕ) → n ≤ length l → unwrap_or (cond (nat_lt n (length l)) (Some n) None) (length l) ≡ n
+    by_position n h = grind (arith, nat_tests)
 
 module _ (table : List ℕ) where
   module _ (at : ℕ) where
@@ -53,43 +74,80 @@ module _ (table : List ℕ) where
     items_first left h = simp (le-leb _ _ h)
 
     -- of no items none is drawn
-    pub draw_none : draw_at table at 0 ≡ drawn_none at 0
+    pub draw_none : (left : ℕ) → left ≡ 0 → draw_at table at left ≡ None
     unfolding draw_at
-    draw_none = refl
+    draw_none zero e = refl
+    draw_none (suc left) e = absurd (omega arith)
 
     -- without its two bytes none is drawn
-    pub draw_short : (left : ℕ) → length table < at + 2 → draw_at table at left ≡ drawn_none at left
+    pub draw_short : (left : ℕ) → length table < at + 2 → draw_at table at left ≡ None
     unfolding draw_at
     draw_short zero h = refl
     draw_short (suc left) h = simp (lt-leb _ _ h)
 
+    abbrev drawn : ℕ → Drawn
+    drawn below = record {
+      kind = be_at table at 1;
+      place = at + 2;
+      len = length (string_at table (at + 2));
+      next = next_item table at;
+      left = cond (ltb (next_item table at) (length table)) below 0;
+    }
+
     -- with its two bytes there, the item is drawn
-    pub draw_item : (left : ℕ) → at + 2 ≤ length table
-        → draw_at table at (suc left)
-        ≡ record {
-          found = true;
-          kind = be_at table at 1;
-          place = at + 2;
-          len = length (string_at table (at + 2));
-          next = next_item table at;
-          left = cond (ltb (next_item table at) (length table)) left 0;
-        }
+    draw_item : (left : ℕ) → at + 2 ≤ length table → draw_at table at (suc left) ≡ Some (drawn left)
     unfolding draw_at
-    draw_item left h = simp (le-leb _ _ h)
+    draw_item left two = simp (le-leb _ _ two)
+
+    draw_some : (left : ℕ) → 0 < left → at + 2 ≤ length table → draw_at table at left ≡ Some (drawn (left - 1))
+    draw_some zero some two = absurd (omega arith)
+    draw_some (suc left) some two = let e : suc left - 1 ≡ left = omega arith in rw e (draw_item left two)
+
+    -- the draw by what stands behind the item's string
+    module _ (left : ℕ) (some : 0 < left) (two : at + 2 ≤ length table) (string rest : List ℕ) (its : string ≡ string_at table (at + 2))
+        (behind : rest ≡ drop (at + 2 + length string) table) where
+      drawn_by : (next more : ℕ) → next_item table at ≡ next → cond (ltb next (length table)) (left - 1) 0 ≡ more
+          → draw_at table at left ≡ Some (record { kind = be_at table at 1; place = at + 2; len = length string; next = next; left = more })
+      drawn_by next more e m =
+          draw_some left some two
+          ∙ (λ i. Some (record {
+            kind = be_at table at 1;
+            place = at + 2;
+            len = length (sym its i);
+            next = e i;
+            left = (ap (λ (n : ℕ). cond (ltb n (length table)) (left - 1) 0) e ∙ m) i;
+          }))
+
+      next_is : next_item table at ≡ at + 2 + length string + unwrap_or (position (λ b. not (eqb b 0)) rest) (length rest)
+      unfolding next_item nonzero_at
+      next_is =
+          ap (λ (s : List ℕ). at + 2 + length s + length (take_while is_zero (drop (at + 2 + length s) table))) (sym its)
+          ∙ ap (λ (l : List ℕ). at + 2 + length string + length (take_while is_zero l)) (sym behind) ∙ ap (λ (n : ℕ). at + 2 + length string + n) (before_nonzero rest)
+
+      sized : length rest + (at + 2 + length string) ≡ length table
+      sized =
+          let few = string_within table (at + 2) in let l = ap length its in let r = ap length behind ∙ length-drop (at + 2 + length string) table in
+          omega (arith, few, l, r)
+
+      -- a nonzero byte: there the next item begins
+      pub draw_more : (zeros : ℕ) → position (λ b. not (eqb b 0)) rest ≡ Some zeros
+          → draw_at table at left
+          ≡ Some (record { kind = be_at table at 1; place = at + 2; len = length string; next = at + 2 + length string + zeros; left = left - 1 })
+      draw_more zeros e =
+          let within = (position-Some (λ b. not (eqb b 0)) rest zeros 0 e).0 in let all = sized in
+          drawn_by (at + 2 + length string + zeros) (left - 1) (next_is ∙ ap (λ (o : Option ℕ). at + 2 + length string + unwrap_or o (length rest)) e)
+          (simp (lt-ltb (at + 2 + length string + zeros) (length table) (omega arith)))
+
+      -- none: the draw was the last
+      pub draw_last : position (λ b. not (eqb b 0)) rest ≡ None
+          → draw_at table at left ≡ Some (record { kind = be_at table at 1; place = at + 2; len = length string; next = length table; left = 0 })
+      draw_last e =
+          let all = sized in let end = next_is ∙ ap (λ (o : Option ℕ). at + 2 + length string + unwrap_or o (length rest)) e in
+          drawn_by (length table) 0 (omega (arith, end, all)) (simp (le-ltb (length table) (length table) (omega arith)))
 
     -- a fact about a draw: one of none, and one of an item
-    by_draw : (P : Drawn → Type 0) (left : ℕ) → P (drawn_none at left)
-        → ((below : ℕ) → left ≡ suc below
-        → P (record {
-          found = true;
-          kind = be_at table at 1;
-          place = at + 2;
-          len = length (string_at table (at + 2));
-          next = next_item table at;
-          left = cond (ltb (next_item table at) (length table)) below 0;
-        }))
-        → P (draw_at table at left)
-    by_draw P zero none item = subst P (sym draw_none) none
+    by_draw : (P : Option Drawn → Type 0) (left : ℕ) → P None → ((below : ℕ) → left ≡ suc below → P (Some (drawn below))) → P (draw_at table at left)
+    by_draw P zero none item = subst P (sym (draw_none 0 refl)) none
     by_draw P (suc left) none item = go (leb (at + 2) (length table)) refl
       where
         go : (t : Bool) → leb (at + 2) (length table) ≡ t → P (draw_at table at (suc left))
@@ -97,53 +155,44 @@ module _ (table : List ℕ) where
         go false e = subst P (sym (draw_short (suc left) (leb-false _ _ e))) none
 
     -- a draw that finds an item leaves fewer
-    pub draw_fewer : (left : ℕ) → (draw_at table at left).found ≡ true → (draw_at table at left).left < left
-    unfolding drawn_none
+    pub draw_fewer : (left : ℕ) (d : Drawn) → draw_at table at left ≡ Some d → d.left < left
     draw_fewer left =
-        by_draw (λ (d : Drawn). d.found ≡ true → d.left < left) left (λ e. absurd (false≢true e))
-        (λ below e _. fewer (ltb (next_item table at) (length table)) below e)
+        by_draw (λ (o : Option Drawn). (d : Drawn) → o ≡ Some d → d.left < left) left (λ d e. absurd (none_some d e))
+        (λ below e d is. subst (λ (x : Drawn). x.left < left) (some_own (drawn below) d is) (fewer (ltb (next_item table at) (length table)) below e))
       where
         fewer : (t : Bool) (below : ℕ) → left ≡ suc below → cond t below 0 < left
         fewer true below e = omega arith
         fewer false below e = omega arith
 
-    -- one that finds none leaves the cursor where it is
-    pub draw_stays : (left : ℕ) → (draw_at table at left).found ≡ false
-        → ((draw_at table at left).next ≡ at) × ((draw_at table at left).left ≡ left)
-    unfolding drawn_none
-    draw_stays left =
-        by_draw (λ (d : Drawn). d.found ≡ false → (d.next ≡ at) × (d.left ≡ left)) left (λ _. (refl, refl))
-        (λ below _ e. absurd (true≢false e))
-
     -- what a drawn item marks off of the table is the string at its place
-    pub draw_string : (left : ℕ) → (draw_at table at left).found ≡ true
-        → part (draw_at table at left).place (draw_at table at left).len table ≡ string_at table (draw_at table at left).place
-    unfolding drawn_none
+    pub draw_string : (left : ℕ) (d : Drawn) → draw_at table at left ≡ Some d → part d.place d.len table ≡ string_at table d.place
     draw_string left =
-        by_draw (λ (d : Drawn). d.found ≡ true → part d.place d.len table ≡ string_at table d.place) left
-        (λ e. absurd (false≢true e)) (λ below _ _. sym (string_part table (at + 2)))
+        by_draw (λ (o : Option Drawn). (d : Drawn) → o ≡ Some d → part d.place d.len table ≡ string_at table d.place) left (λ d e. absurd (none_some d e))
+        (λ below e d is. subst (λ (x : Drawn). part x.place x.len table ≡ string_at table x.place) (some_own (drawn below) d is) (sym (string_part table (at + 2))))
 
   -- of no items there are none, wherever they would begin
   items_or_none : (t : Bool) (at left : ℕ) → cond t (items_from table at left) [] ≡ items_from table at (cond t left 0)
   items_or_none true at left = refl
   items_or_none false at left = sym (items_none at)
 
-  -- the items by a draw
-  abbrev unfolded : Drawn → List Item
-  unfolded d = cond d.found (item_of d ∷ items_from table d.next d.left) []
-
   -- the walk unfolds by a draw: the item that it finds, and the items from where it leaves off
-  pub items_draw : (at left : ℕ)
-      → items_from table at left
-      ≡ cond (draw_at table at left).found
-      (item_of (draw_at table at left) ∷ items_from table (draw_at table at left).next (draw_at table at left).left) []
-  unfolding drawn_none item_at item_of
-  items_draw at zero = items_none at ∙ sym (ap unfolded (draw_none at))
-  items_draw at (suc left) = go (leb (at + 2) (length table)) refl
+  pub items_drawn : (at left : ℕ) (d : Drawn) → draw_at table at left ≡ Some d → items_from table at left ≡ item_of d ∷ items_from table d.next d.left
+  unfolding item_at item_of
+  items_drawn at zero d e = absurd (none_some d (sym (draw_none at 0 refl) ∙ e))
+  items_drawn at (suc left) d e = go (leb (at + 2) (length table)) refl
     where
-      go : (t : Bool) → leb (at + 2) (length table) ≡ t → items_from table at (suc left) ≡ unfolded (draw_at table at (suc left))
-      go true e =
-          let two = leb-true _ _ e in let next = next_item table at in
+      go : (t : Bool) → leb (at + 2) (length table) ≡ t → items_from table at (suc left) ≡ item_of d ∷ items_from table d.next d.left
+      go true is =
+          let two = leb-true _ _ is in let next = next_item table at in
           items_first at left two ∙ ap (λ (rest : List Item). item_at table at ∷ rest) (items_or_none (ltb next (length table)) next left)
-          ∙ sym (ap unfolded (draw_item at left two))
-      go false e = let short = leb-false _ _ e in items_short at (suc left) short ∙ sym (ap unfolded (draw_short at (suc left) short))
+          ∙ ap (λ (x : Drawn). item_of x ∷ items_from table x.next x.left) (some_own (drawn at left) d (sym (draw_item at left two) ∙ e))
+      go false is = absurd (none_some d (sym (draw_short at (suc left) (leb-false _ _ is)) ∙ e))
+
+  -- where none is drawn there are none
+  pub items_undrawn : (at left : ℕ) → draw_at table at left ≡ None → items_from table at left ≡ []
+  items_undrawn at zero e = items_none at
+  items_undrawn at (suc left) e = go (leb (at + 2) (length table)) refl
+    where
+      go : (t : Bool) → leb (at + 2) (length table) ≡ t → items_from table at (suc left) ≡ []
+      go true is = absurd (none_some (drawn at left) (sym e ∙ draw_item at left (leb-true _ _ is)))
+      go false is = items_short at (suc left) (leb-false _ _ is)

@@ -1,8 +1,7 @@
 -- The items of a track's text (01, "Area"). Assumes nothing.
-use Rattle.std.specs.Prelude.{ℕ, zero, suc, ◌+◌, Bool, true, false, cond, List, [], ◌∷◌, leb, ltb, eqb, length, drop}
+use Rattle.std.specs.Prelude.{ℕ, zero, suc, ◌+◌, Bool, cond, List, [], ◌∷◌, leb, ltb, eqb, length, drop, take_while, Option, Some, None}
 use Rattle.sectors.specs.Number.{be_at}
 use Rattle.text.specs.String.{string_at}
-use Rattle.text.specs.While.{take_while}
 use Rattle.area.specs.declared.items.Drawn.{Drawn}
 
 -- "An item is type byte, ignored byte, string.": its type, and where its string stands
@@ -36,26 +35,26 @@ items_from table at (suc left) =
     (item_at table at ∷ cond (ltb (next_item table at) (length table)) (items_from table (next_item table at) left) [])
     []
 
--- "a draw answers .. the end": the cursor stays
-unfoldable pub drawn_none : ℕ → ℕ → Drawn
-drawn_none next left = record { found = false; kind = 0; place = 0; len = 0; next = next; left = left }
-
 -- "a draw answers the type byte and string of the next item, empty and unknown ones included, or the end": with the place of the next
 -- draw, and how many items are left
-unfoldable pub draw_at : List ℕ → ℕ → ℕ → Drawn
-draw_at table at zero = drawn_none at zero
+unfoldable pub draw_at : List ℕ → ℕ → ℕ → Option Drawn
+draw_at table at zero = None
 draw_at table at (suc left) =
     cond (leb (at + 2) (length table))
-    (record {
-      found = true;
+    (Some (record {
       kind = be_at table at 1;
       place = at + 2;
       len = length (string_at table (at + 2));
       next = next_item table at;
       left = cond (ltb (next_item table at) (length table)) left 0;
-    })
-    (drawn_none at (suc left))
+    }))
+    None
 
 -- the item of a draw
 unfoldable pub item_of : Drawn → Item
 item_of d = record { kind = d.kind; place = d.place; len = d.len }
+
+-- the items by a draw, with those behind it: none at the end
+unfoldable pub item_then : Option Drawn → List Item → List Item
+item_then None rest = []
+item_then (Some d) rest = item_of d ∷ rest

@@ -1,5 +1,6 @@
 -- Laws of what is written into lent memory: runs of stores one after another, and their count. Assumes nothing.
-use Rattle.std.specs.Prelude.{◌≡◌, Bool, cond, List, [], ◌∷◌, ◌++◌, map, ℕ, suc, ◌+◌, ◌≤◌, ltb, length, set}
+use Rattle.std.specs.Prelude.{◌≡◌, Bool, cond, List, [], ◌∷◌, ◌++◌, map, ℕ, suc, ◌+◌, ◌≤◌, ltb, length, set, option_to_list}
+use Rattle.std.specs.Bool.{then_some}
 use Rattle.std.proofs.Math.Path.{refl}
 use Rattle.std.proofs.Common.{sym, ap, ◌∙◌, add-zero, add-suc, suc-add, ltb-true, ltb-false}
 use Rattle.std.proofs.Math.Bool.{true, false}
@@ -16,6 +17,11 @@ module _ {A : Type 0} where
   unfolding when_true
   when_length true x = refl
   when_length false x = refl
+
+  pub when_listed : (t : Bool) (x : A) → option_to_list (then_some t x) ≡ when_true t x
+  unfolding when_true
+  when_listed true x = refl
+  when_listed false x = refl
 
   pub when_given : (x : A) → when_true true x ≡ x ∷ []
   unfolding when_true

@@ -16,7 +16,6 @@ pub mod TrackText
 pub mod Track
 pub mod Table
 pub mod Lone
-pub mod Plan
 pub mod TextDecode
 pub mod Cursor
 pub mod Capping

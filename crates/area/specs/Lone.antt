@@ -7,8 +7,9 @@ use Rattle.area.specs.Limits.{max_table_bytes, max_tracks, max_head_warnings, ma
 use Rattle.area.specs.Refusal.{no_audio_areas, odd_table}
 use Rattle.area.specs.Warning.{word_of}
 use Rattle.area.specs.Area.{no_area}
-use Rattle.area.specs.Table.{Table, skips, yields, area_at, warnings_of}
+use Rattle.area.specs.Table.{Table, skips, yields, area_at, warnings_of, head_of}
 use Rattle.area.specs.declared.lone.TableAnswer.{TableAnswer}
+use Rattle.area.specs.declared.table.TableHead.{TableHead}
 use Rattle.area.specs.declared.track.Track.{Track}
 
 -- "a lone table of 0 bytes, over 262,144, or no multiple of 2,048"
@@ -29,6 +30,10 @@ lone_slot = 1
 unfoldable pub lone_sectors : List ℕ → ℕ
 lone_sectors table = length table / sector_size
 
+-- the head of a lone table
+unfoldable pub lone_head : List ℕ → TableHead
+lone_head table = head_of table lone_slot 0 (lone_sectors table)
+
 -- a refusal that reads nothing, or what the table gives
 pub data Lone : Type 0 where
   refused : ℕ → Lone
@@ -45,6 +50,10 @@ unfoldable pub lone_answer : Lone → TableAnswer
 lone_answer (refused number) = record { refusal = number; warnings = 0; area = no_area }
 lone_answer (reads (skips warning)) = record { refusal = no_audio_areas; warnings = length (warnings_of (skips warning)); area = no_area }
 lone_answer (reads (yields area tracks warnings)) = record { refusal = 0; warnings = length warnings; area = area }
+
+-- .. by the head of a table, and the count of all warnings
+unfoldable pub head_answer : TableHead → ℕ → TableAnswer
+head_answer head warnings = record { refusal = cond (eqb head.skip 0) 0 no_audio_areas; warnings = warnings; area = head.area }
 
 -- "The tracks of an area stand in a lent list of records, one each." "tracks of a yielded area fill records from 0". "Everything else is
 -- unchanged."

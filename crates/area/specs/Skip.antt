@@ -1,13 +1,14 @@
 -- Which tables are skipped (01, "Area"). Assumes nothing.
-use Rattle.std.specs.Prelude.{ℕ, ◌+◌, ◌*◌, Bool, cond, not, ◌&&◌, ◌||◌, List, leb, ltb, eqb, length}
+use Rattle.std.specs.Prelude.{ℕ, ◌+◌, ◌*◌, Bool, cond, not, ◌&&◌, ◌||◌, List, leb, ltb, eqb, length, Option, Some, None}
 use Rattle.sectors.specs.Format.{sector_size}
 use Rattle.sectors.specs.Number.{be_at}
 use Rattle.sectors.specs.declared.sector.Lsn.{Lsn}
 use Rattle.area.specs.Units.{lsn_at}
 use Rattle.area.specs.Area.{kind_of, track_count_offset, audio_start_offset, audio_end_offset}
 use Rattle.area.specs.Chain.{chain_of}
-use Rattle.area.specs.Warning.{area_signature_invalid, area_track_list_missing, area_toc_malformed, area_audio_range_reversed}
+use Rattle.area.specs.Warning.{number_of, area_signature_invalid, area_track_list_missing, area_toc_malformed, area_audio_range_reversed}
 use Rattle.area.specs.declared.chain.Chain.{Chain}
+use Rattle.area.specs.declared.warning.WarningCode.{WarningCode}
 
 -- "no TRL1 or TRL2"
 unfoldable pub list_missing : Chain → Bool
@@ -29,6 +30,11 @@ skip_by table c =
     (cond (list_missing c) area_track_list_missing
     (cond (is_malformed table c) area_toc_malformed
     (cond (is_reversed (lsn_at table audio_start_offset) (lsn_at table audio_end_offset)) area_audio_range_reversed 0)))
+
+-- the number of the warning by which a table is skipped, or 0
+unfoldable pub skip_number : Option WarningCode → ℕ
+skip_number None = 0
+skip_number (Some code) = number_of code
 
 unfoldable pub skip_of : List ℕ → ℕ
 skip_of table = skip_by table (chain_of table)

@@ -1,10 +1,10 @@
 -- What a table gives (01, "Area", from the signature on). Assumes nothing.
-use Rattle.std.specs.Prelude.{ℕ, ◌+◌, min, cond, not, ltb, eqb}
+use Rattle.std.specs.Prelude.{ℕ, min, cond, not, ltb, eqb, option_map, option_to_list}
 use mathlib.Core.List.{List, [], ◌∷◌, ◌++◌, map, flat_map}
 use Rattle.area.specs.Tabulate.{tabulate}
 use Rattle.area.specs.Lent.{when_true}
 use Rattle.area.specs.Limits.{max_tracks, table_bytes}
-use Rattle.area.specs.Warning.{track_past_playtime, track_lsn_outside_area, sample_frequency_unknown, track_text_unterminated}
+use Rattle.area.specs.Warning.{number_of, track_past_playtime, track_lsn_outside_area, sample_frequency_unknown, track_text_unterminated}
 use Rattle.area.specs.Chain.{chain_of, nothing_kept}
 use Rattle.area.specs.Area.{record_of, addressed, no_area}
 use Rattle.area.specs.Skip.{skip_of}
@@ -16,6 +16,7 @@ use Rattle.area.specs.declared.table.TableHead.{TableHead}
 use Rattle.area.specs.declared.track.Track.{Track}
 use Rattle.area.specs.declared.track.TrackRead.{TrackRead}
 use Rattle.area.specs.declared.warning.Warning.{Warning}
+use Rattle.area.specs.declared.warning.WarningCode.{WarningCode}
 
 -- "the area's record, its tracks .., or nothing if 8 to 11 skips it", with the warnings
 pub data Table : Type 0 where
@@ -38,12 +39,16 @@ frequency_warnings slot area = when_true (not (eqb area.sample_frequency_code ds
 unfoldable pub of_track : ℕ → ℕ → TrackRead → Warning
 of_track code slot read = record { code = code; slot = slot; track = read.track.number }
 
+-- 12 or 13 of a track's text, or none
+unfoldable pub text_warnings : ℕ → TrackRead → List Warning
+text_warnings slot read = option_to_list (option_map (λ (code : WarningCode). of_track (number_of code) slot read) read.text_warning)
+
 -- "Per track the order is 14, 15, then 12 or 13.", and of 19: "once, after 12 or 13" (02, item 5)
 unfoldable pub track_warnings : ℕ → TrackRead → List Warning
 track_warnings slot read =
     when_true read.past_playtime (of_track track_past_playtime slot read)
     ++ when_true read.outside_area (of_track track_lsn_outside_area slot read)
-    ++ when_true (not (eqb read.text_warning 0)) (of_track read.text_warning slot read)
+    ++ text_warnings slot read
     ++ when_true (any_unterminated read.track.text) (of_track track_text_unterminated slot read)
 
 -- the tracks of a table, each with what it is warned of

@@ -1,5 +1,5 @@
 -- Laws of `tabulate`, for any entry. Assumes nothing.
-use Rattle.std.specs.Prelude.{◌≡◌, length, get_or}
+use Rattle.std.specs.Prelude.{◌≡◌, length, get_or, slice_index_or}
 use Rattle.std.proofs.Math.Path.{refl, ap}
 use Rattle.std.proofs.Common.{◌∙◌}
 use mathlib.Core.List.Memᴰ
@@ -52,6 +52,16 @@ module _ {A : Type 0} where
       ⊎_elim (λ e. (0, (omega arith, e)))
       (λ later. let found = tabulate_member n (λ k. f (suc k)) later in let below = found.1.0 in (suc found.0, (omega arith, found.1.1)))
       (Memᴰ.cases_cons m)
+
+module _ {A : Type 0} where
+  -- a list that is known entry by entry
+  pub tabulated : (n : ℕ) (f : ℕ → A) (ys : List A) → length ys ≡ n → ((i : ℕ) (d : A) → i < n → slice_index_or ys i d ≡ f i) → ys ≡ tabulate n f
+  unfolding tabulate
+  tabulated zero f [] e at = refl
+  tabulated zero f (y ∷ ys) e at = absurd (omega (arith, e))
+  tabulated (suc n) f [] e at = absurd (omega (arith, e))
+  tabulated (suc n) f (y ∷ ys) e at = λ i.
+      at 0 y (omega arith) i ∷ tabulated n (λ k. f (suc k)) ys (omega (arith, e)) (λ k d lt. at (suc k) d (omega (arith, lt))) i
 
 module _ {A B : Type 0} where
   -- a function of each entry

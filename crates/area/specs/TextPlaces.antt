@@ -1,5 +1,6 @@
 -- Where the texts of a record stand in its table (01, "Area"), and how each ended (02, item 5). Assumes nothing.
-use Rattle.std.specs.Prelude.{ℕ, Bool, false, cond, not, ◌&&◌, ◌||◌, List, [], ◌∷◌, eqb}
+use Rattle.std.specs.Prelude.{ℕ, Bool, cond, not, ◌&&◌, ◌||◌, List, eqb}
+use Rattle.std.specs.List.{list_any}
 use Rattle.sectors.specs.Number.{be_at}
 use Rattle.text.specs.String.{string_at, ended_byZero_byte, end_of, present}
 use Rattle.area.specs.declared.text_places.TextPlace.{TextPlace}
@@ -29,5 +30,4 @@ is_unterminated text = not (eqb text.end no_end) && not (eqb text.end ended_byZe
 
 -- whether one of a record's texts is such
 unfoldable pub any_unterminated : List TextPlace → Bool
-any_unterminated [] = false
-any_unterminated (text ∷ texts) = is_unterminated text || any_unterminated texts
+any_unterminated texts = list_any is_unterminated texts

@@ -1,6 +1,6 @@
 // The record of an area.
 ghost use Rattle.std.specs.Prelude.{◌≡◌};
-ghost use Rattle.area.specs.Area.{kind_of, low_four, area_texts_at, record_of, addressed, no_area};
+ghost use Rattle.area.specs.Area.{kind_of, kind_number, low_four, area_texts_at, record_of, addressed, no_area};
 ghost use Rattle.area.specs.Locale.{locale_count};
 
 use crate::locale::{Locale, MAX_LOCALES, locales_at, no_locale};
@@ -9,11 +9,14 @@ use crate::timecode::{Timecode, timecode_at};
 use sectors::number::{be32_at, byte_at};
 use sectors::sector::Lsn;
 use sectors::signature::has_signature;
+use std::array;
 
 // The signatures that an area's table begins with, by number.
-pub const TWO_CHANNEL: u8 = 1;
-
-pub const MULTICHANNEL: u8 = 2;
+#[derive(Clone, Copy, Debug, PartialEq, Eq)]
+pub enum Kind {
+    TwoChannel = 1,
+    Multichannel = 2,
+}
 
 // Where a table's track count and its audio range stand.
 pub(crate) const TRACK_COUNT_OFFSET: usize = 69;
@@ -27,7 +30,7 @@ const AREA_TEXTS_OFFSET: usize = 144;
 
 // Where an area's table came from: its slot, its address and its sectors.
 #[repr(C)]
-#[derive(Clone, Copy)]
+#[derive(Clone, Copy, Default)]
 pub struct TableOrigin {
     pub slot: u8,
     pub toc_lsn: Lsn,
@@ -36,15 +39,16 @@ pub struct TableOrigin {
 
 // A structure version number.
 #[repr(C)]
-#[derive(Clone, Copy)]
+#[derive(Clone, Copy, Default)]
 pub struct Version {
     pub major: u8,
     pub minor: u8,
 }
 
 // The record of an area; all zero where there is none. Flags are 0 or 1.
+// As C has it: `present` where Rust has an Option, `kind` a number, 0 for neither signature, the locales beside their count.
 #[repr(C)]
-#[derive(Clone, Copy)]
+#[derive(Clone, Copy, Default)]
 pub struct Area {
     pub present: u8,
     pub origin: TableOrigin,
@@ -70,18 +74,26 @@ pub struct Area {
     pub text: [TextPlace; AREA_TEXTS],
 }
 
-// Which signature a table begins with; 0 for neither.
-#[tactic(auto, unfolding(crate::specs::Area::kind_of))]
-pub(crate) fn kind_of(table: &[u8]) -> u8
-    ensures { result ≡ kind_of table.now }
+// Which signature a table begins with, if either.
+#[tactic(auto, unfolding(crate::specs::Area::kind_of, crate::specs::Area::kind_number))]
+pub(crate) fn kind_of(table: &[u8]) -> Option<Kind>
+    ensures { kind_number result ≡ kind_of table.now }
 {
     if has_signature(table, 0, *b"TWOCHTOC") {
-        return TWO_CHANNEL;
+        Some(Kind::TwoChannel)
+    } else if has_signature(table, 0, *b"MULCHTOC") {
+        Some(Kind::Multichannel)
+    } else {
+        None
     }
-    if has_signature(table, 0, *b"MULCHTOC") {
-        return MULTICHANNEL;
-    }
-    0
+}
+
+// The number of a signature, 0 for neither.
+#[tactic(auto, unfolding(crate::specs::Area::kind_number))]
+fn kind_number(kind: Option<Kind>) -> u8
+    ensures { result ≡ kind_number kind }
+{
+    kind.map_or(0, |kind| kind as u8)
 }
 
 // The low four bits of a byte.
@@ -97,11 +109,7 @@ fn low_four(b: u8) -> u8
 fn locale_count(channels: u8) -> u8
     ensures { result ≡ locale_count channels }
 {
-    if channels < MAX_LOCALES as u8 {
-        channels
-    } else {
-        MAX_LOCALES as u8
-    }
+    channels.min(MAX_LOCALES as u8)
 }
 
 // The places of an area's texts.
@@ -109,15 +117,10 @@ fn locale_count(channels: u8) -> u8
 fn area_texts_at(table: &[u8]) -> [TextPlace; AREA_TEXTS]
     ensures { result ≡ area_texts_at table.now }
 {
-    [
-        text_place_at(table, AREA_TEXTS_OFFSET),
-        text_place_at(table, AREA_TEXTS_OFFSET + 2),
-        text_place_at(table, AREA_TEXTS_OFFSET + 4),
-        text_place_at(table, AREA_TEXTS_OFFSET + 6),
-    ]
+    array::from_fn(|item| text_place_at(table, AREA_TEXTS_OFFSET + 2 * item))
 }
 
-// The record of a table's area.
+// The record of a table's area. (Slot, address and sectors are three numbers, as C gives them to `table_head`.)
 #[tactic(auto, unfolding(crate::specs::Area::record_of, crate::specs::Area::addressed, crate::specs::Units::lsn_at))]
 pub(crate) fn record_of(table: &[u8], slot: u8, lsn: Lsn, sectors: u16) -> Area
     ensures { result ≡ addressed lsn.0 (record_of table.now slot sectors) }
@@ -130,7 +133,7 @@ pub(crate) fn record_of(table: &[u8], slot: u8, lsn: Lsn, sectors: u16) -> Area
             toc_lsn: lsn,
             toc_sectors: sectors,
         },
-        kind: kind_of(table),
+        kind: kind_number(kind_of(table)),
         version: Version {
             major: byte_at(table, 8),
             minor: byte_at(table, 9),
@@ -157,40 +160,14 @@ pub(crate) fn record_of(table: &[u8], slot: u8, lsn: Lsn, sectors: u16) -> Area
 }
 
 // The record of no area.
-#[tactic(auto, unfolding(crate::specs::Area::no_area))]
+#[tactic(auto, unfolding(crate::specs::Area::no_area, crate::specs::Locale::no_locale))]
 pub fn no_area() -> Area
     ensures { result ≡ no_area }
 {
+    // The arrays by value: of a default with arrays of records no proof is found.
     Area {
-        present: 0,
-        origin: TableOrigin {
-            slot: 0,
-            toc_lsn: Lsn(0),
-            toc_sectors: 0,
-        },
-        kind: 0,
-        version: Version { major: 0, minor: 0 },
-        max_byte_rate: 0,
-        sample_frequency_code: 0,
-        frame_format: 0,
-        channel_count: 0,
-        area_config: 0,
-        max_available_channels: 0,
-        area_mute_flags: 0,
-        track_attribute: 0,
-        playtime: Timecode {
-            minutes: 0,
-            seconds: 0,
-            frames: 0,
-        },
-        track_offset: 0,
-        track_count: 0,
-        audio_start_lsn: Lsn(0),
-        audio_end_lsn: Lsn(0),
-        text_channel_count: 0,
-        locale_count: 0,
         locales: [no_locale(); MAX_LOCALES],
-        text_charset: 0,
         text: [NO_TEXT; AREA_TEXTS],
+        ..Area::default()
     }
 }

@@ -1,23 +1,15 @@
 // A track's times, held within the play time of its area.
-ghost use Rattle.std.specs.Prelude.{◌≡◌, min};
+ghost use Rattle.std.specs.Prelude.{◌≡◌};
 ghost use Rattle.area.specs.Cap.{cap_of};
 
 use crate::timecode::Frame;
 
 // What is kept of a track's times, and whether they went past the play time.
-#[repr(C)]
 #[derive(Clone, Copy)]
 pub struct Capped {
     pub start_frame: Frame,
     pub duration_frames: Frame,
     pub past_playtime: bool,
-}
-
-// The lesser of two frame numbers.
-fn lesser_frame(a: Frame, b: Frame) -> Frame
-    ensures { result.0 ≡ min a.0 b.0 }
-{
-    if a.0 < b.0 { a } else { b }
 }
 
 // Start and duration as they are if they end within the play time; else the start is capped at it, the duration at what remains.
@@ -32,10 +24,10 @@ pub fn cap(start: Frame, duration: Frame, playtime: Frame) -> Capped
             past_playtime: false,
         };
     }
-    let kept = lesser_frame(start, playtime);
+    let start = start.min(playtime);
     Capped {
-        start_frame: kept,
-        duration_frames: lesser_frame(duration, Frame(playtime.0 - kept.0)),
+        start_frame: start,
+        duration_frames: duration.min(Frame(playtime.0 - start.0)),
         past_playtime: true,
     }
 }

@@ -1,16 +1,14 @@
 // The texts of an area and of its tracks, decoded from a lone table. Nothing that is handed in is trusted.
 ghost use Rattle.std.specs.Prelude.{◌≡◌, length};
-ghost use Rattle.text.specs.Decode.{decode_of, decode_into};
+ghost use Rattle.text.specs.Decode.{answer_by, decode_of, decode_into};
 ghost use Rattle.area.specs.TextDecode.{table_short, no_such_area, no_such_track, text_at, area_text_in, track_index, track_text_in, track_text_by, text_answer, text_page};
 
 use crate::area::Area;
-use crate::bytes::lesser;
 use crate::table::{MAX_TRACKS, table_bytes, table_size};
-use crate::text_places::{AREA_TEXTS, TRACK_TEXTS};
+use crate::text_places::TRACK_TEXTS;
 use crate::track::Track;
 use crate::tracks::place_at;
-use sectors::refusal::{NO_SUCH_ENTRY, SHORT_BUFFER};
-use text::decode::DecodeAnswer;
+use text::decode::DecodeRefusal;
 use text::stored::decode_placed;
 
 // Whether fewer bytes are lent than the table of an area's record has.
@@ -18,8 +16,7 @@ use text::stored::decode_placed;
 fn table_short(bytes: usize, area: Area) -> bool
     ensures { result ≡ table_short bytes area }
 {
-    let origin = area.origin;
-    bytes < table_size(origin.toc_sectors)
+    bytes < table_size(area.origin.toc_sectors)
 }
 
 // Whether a record is that of no area.
@@ -27,47 +24,47 @@ fn table_short(bytes: usize, area: Area) -> bool
 fn no_such_area(area: Area) -> bool
     ensures { result ≡ no_such_area area }
 {
-    let origin = area.origin;
-    (area.present != 1) | (origin.slot == 0) | (2 < origin.slot)
+    area.present != 1 || !(1..=2).contains(&area.origin.slot)
 }
 
 // Decodes the text at a place of an area's table, 0 for an absent one.
 #[tactic(auto, unfolding(crate::specs::TextDecode::text_at))]
-fn decode_at(lent: &[u8], area: Area, place: u32, mapping: &[u32], page: &mut [u8]) -> DecodeAnswer
-    ensures answer { result ≡ decode_of (text_at lent.now area place) area.text_charset mapping.now (length page.old) }
+fn decode_at(
+    lent: &[u8],
+    area: Area,
+    place: u32,
+    mapping: &[u32],
+    page: &mut [u8],
+) -> Result<usize, DecodeRefusal>
+    ensures answer { answer_by result ≡ decode_of (text_at lent.now area place) area.text_charset mapping.now (length page.old) }
     ensures filled { page.new ≡ decode_into (text_at lent.now area place) area.text_charset mapping.now page.old }
 {
-    let origin = area.origin;
-    let table = table_bytes(lent, origin.toc_sectors);
+    let table = table_bytes(lent, area.origin.toc_sectors);
     decode_placed(table, place, area.text_charset, mapping, page)
 }
 
 // Decodes a text of an area, by its item index, to the start of a page.
-#[tactic(auto, using(text::proofs::DecodeLaws::refusing_is), unfolding(crate::specs::TextDecode::area_text_in, crate::specs::TextDecode::text_of, crate::specs::TextDecode::place_of, crate::specs::TextDecode::text_answer, crate::specs::TextDecode::text_page))]
+#[tactic(auto, using(text::proofs::AnswerLaws::answer_short_buffer, text::proofs::AnswerLaws::answer_no_such_entry), unfolding(crate::specs::TextDecode::area_text_in, crate::specs::TextDecode::text_of, crate::specs::TextDecode::place_of, crate::specs::TextDecode::text_answer, crate::specs::TextDecode::text_page))]
 pub fn decode_area_text(
     table: &[u8],
     area: Area,
     item: u32,
     mapping: &[u32],
     page: &mut [u8],
-) -> DecodeAnswer
-    ensures answer { result ≡ text_answer (area_text_in table.now area item) mapping.now (length page.old) }
+) -> Result<usize, DecodeRefusal>
+    ensures answer { answer_by result ≡ text_answer (area_text_in table.now area item) mapping.now (length page.old) }
     ensures filled { page.new ≡ text_page (area_text_in table.now area item) mapping.now page.old }
 {
     if table_short(table.len(), area) {
-        return DecodeAnswer {
-            refusal: SHORT_BUFFER,
-            len: 0,
-        };
+        return Err(DecodeRefusal::ShortBuffer);
     }
-    if no_such_area(area) | (AREA_TEXTS <= item as usize) {
-        return DecodeAnswer {
-            refusal: NO_SUCH_ENTRY,
-            len: 0,
-        };
+    if no_such_area(area) {
+        return Err(DecodeRefusal::NoSuchEntry);
     }
-    let places = area.text;
-    let text = places[item as usize];
+    let text = area
+        .text
+        .get(item as usize)
+        .ok_or(DecodeRefusal::NoSuchEntry)?;
     decode_at(table, area, text.place, mapping, page)
 }
 
@@ -76,10 +73,7 @@ pub fn decode_area_text(
 fn track_index(number: u32) -> usize
     ensures { result ≡ track_index number }
 {
-    if number == 0 {
-        return 0;
-    }
-    (number - 1) as usize
+    number.saturating_sub(1) as usize
 }
 
 // Whether an area has no track of a number; above 255 tracks count as 255.
@@ -87,11 +81,11 @@ fn track_index(number: u32) -> usize
 fn no_such_track(area: Area, number: u32) -> bool
     ensures { result ≡ no_such_track area number }
 {
-    (number == 0) | (lesser(area.track_count as usize, MAX_TRACKS) < number as usize)
+    !(1..=(area.track_count as usize).min(MAX_TRACKS)).contains(&(number as usize))
 }
 
 // Decodes the text that a track of a list of so many has at a place, by the track's number and the item index.
-#[tactic(auto, using(text::proofs::DecodeLaws::refusing_is), unfolding(crate::specs::TextDecode::track_text_in, crate::specs::TextDecode::text_of, crate::specs::TextDecode::text_answer, crate::specs::TextDecode::text_page))]
+#[tactic(auto, using(text::proofs::AnswerLaws::answer_short_buffer, text::proofs::AnswerLaws::answer_no_such_entry), unfolding(crate::specs::TextDecode::track_text_in, crate::specs::TextDecode::text_of, crate::specs::TextDecode::text_answer, crate::specs::TextDecode::text_page))]
 pub fn decode_of_track(
     table: &[u8],
     area: Area,
@@ -101,21 +95,15 @@ pub fn decode_of_track(
     item: u32,
     mapping: &[u32],
     page: &mut [u8],
-) -> DecodeAnswer
-    ensures answer { result ≡ text_answer (track_text_in table.now area room place number item) mapping.now (length page.old) }
+) -> Result<usize, DecodeRefusal>
+    ensures answer { answer_by result ≡ text_answer (track_text_in table.now area room place number item) mapping.now (length page.old) }
     ensures filled { page.new ≡ text_page (track_text_in table.now area room place number item) mapping.now page.old }
 {
-    if table_short(table.len(), area) | (room < MAX_TRACKS) {
-        return DecodeAnswer {
-            refusal: SHORT_BUFFER,
-            len: 0,
-        };
+    if table_short(table.len(), area) || room < MAX_TRACKS {
+        return Err(DecodeRefusal::ShortBuffer);
     }
-    if no_such_area(area) | no_such_track(area, number) | (TRACK_TEXTS <= item as usize) {
-        return DecodeAnswer {
-            refusal: NO_SUCH_ENTRY,
-            len: 0,
-        };
+    if no_such_area(area) || no_such_track(area, number) || TRACK_TEXTS <= item as usize {
+        return Err(DecodeRefusal::NoSuchEntry);
     }
     decode_at(table, area, place, mapping, page)
 }
@@ -130,8 +118,8 @@ pub fn decode_track_text(
     item: u32,
     mapping: &[u32],
     page: &mut [u8],
-) -> DecodeAnswer
-    ensures { (result ≡ text_answer (track_text_by table.now area tracks.now number item) mapping.now (length page.old))
+) -> Result<usize, DecodeRefusal>
+    ensures { (answer_by result ≡ text_answer (track_text_by table.now area tracks.now number item) mapping.now (length page.old))
         × (page.new ≡ text_page (track_text_by table.now area tracks.now number item) mapping.now page.old) }
 {
     let place = place_at(tracks, track_index(number), item);

@@ -1,9 +1,9 @@
 // The locales of an area table.
-ghost use Rattle.std.specs.Prelude.{◌≡◌};
+ghost use Rattle.std.specs.Prelude.{◌≡◌, ◌<◌, ◌+◌, ◌^◌};
 ghost use Rattle.area.specs.Locale.{locale_at, no_locale, locale_or, locales_at};
 
-use crate::bytes::byte_from;
 use sectors::number::byte_at;
+use std::array;
 use text::language::{LanguageCode, language};
 
 // Locales that a record holds at most.
@@ -14,7 +14,7 @@ const LOCALES_OFFSET: u8 = 88;
 
 // A locale: its language, the two bytes of the language as stored, and the code of its character set.
 #[repr(C)]
-#[derive(Clone, Copy)]
+#[derive(Clone, Copy, Default)]
 pub struct Locale {
     pub language: LanguageCode,
     pub language_code: [u8; 2],
@@ -24,13 +24,14 @@ pub struct Locale {
 // The locale in four bytes from a place on.
 #[tactic(auto, unfolding(crate::specs::Locale::locale_at, crate::specs::Locale::code_at))]
 fn locale_at(table: &[u8], at: usize) -> Locale
+    requires { at + 2 < 2 ^ 64 }
     ensures { result ≡ locale_at table.now at }
 {
-    let code = [byte_at(table, at), byte_from(table, at, 1)];
+    let code = [byte_at(table, at), byte_at(table, at + 1)];
     Locale {
         language: language(code),
         language_code: code,
-        charset: byte_from(table, at, 2),
+        charset: byte_at(table, at + 2),
     }
 }
 
@@ -39,14 +40,7 @@ fn locale_at(table: &[u8], at: usize) -> Locale
 pub fn no_locale() -> Locale
     ensures { result ≡ no_locale }
 {
-    Locale {
-        language: LanguageCode {
-            bytes: [0, 0],
-            len: 0,
-        },
-        language_code: [0, 0],
-        charset: 0,
-    }
+    Locale::default()
 }
 
 // The locale of an index below a count, of those that stand from a place on, or the zero record.
@@ -55,9 +49,10 @@ pub fn locale_or(table: &[u8], at: u8, k: u8, count: u8) -> Locale
     ensures { result ≡ locale_or table.now at count k }
 {
     if k < count {
-        return locale_at(table, at as usize + 4 * k as usize);
+        locale_at(table, at as usize + 4 * k as usize)
+    } else {
+        no_locale()
     }
-    no_locale()
 }
 
 // The first locales of a table, as many as a count says and the record holds; zero past them.
@@ -65,16 +60,5 @@ pub fn locale_or(table: &[u8], at: u8, k: u8, count: u8) -> Locale
 pub(crate) fn locales_at(table: &[u8], count: u8) -> [Locale; MAX_LOCALES]
     ensures { result ≡ locales_at table.now count }
 {
-    [
-        locale_or(table, LOCALES_OFFSET, 0, count),
-        locale_or(table, LOCALES_OFFSET, 1, count),
-        locale_or(table, LOCALES_OFFSET, 2, count),
-        locale_or(table, LOCALES_OFFSET, 3, count),
-        locale_or(table, LOCALES_OFFSET, 4, count),
-        locale_or(table, LOCALES_OFFSET, 5, count),
-        locale_or(table, LOCALES_OFFSET, 6, count),
-        locale_or(table, LOCALES_OFFSET, 7, count),
-        locale_or(table, LOCALES_OFFSET, 8, count),
-        locale_or(table, LOCALES_OFFSET, 9, count),
-    ]
+    array::from_fn(|k| locale_or(table, LOCALES_OFFSET, k as u8, count))
 }

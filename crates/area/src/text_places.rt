@@ -4,7 +4,7 @@ ghost use Rattle.text.specs.String.{end_by};
 ghost use Rattle.area.specs.TextPlaces.{text_place_at, any_unterminated};
 
 use sectors::number::be16_at;
-use text::string::{ENDED_BY_ZERO_BYTE, end_by, string_bytes};
+use text::string::{StringEnd, end_by, string_bytes};
 
 // Texts of an area, and of a track.
 pub const AREA_TEXTS: usize = 4;
@@ -14,9 +14,9 @@ pub const TRACK_TEXTS: usize = 14;
 // The end of an absent text: none.
 const NO_END: u8 = 0;
 
-// The place of a text's string in its table, and how the string ended; both 0 for an absent text.
+// The place of a text's string in its table, and how the string ended; as C has it, both 0 for an absent text.
 #[repr(C)]
-#[derive(Clone, Copy)]
+#[derive(Clone, Copy, Default)]
 pub struct TextPlace {
     pub place: u32,
     pub end: u8,
@@ -34,7 +34,7 @@ pub(crate) fn text_at(size: usize, place: u32, len: usize) -> TextPlace
 {
     TextPlace {
         place,
-        end: end_by(size, place as usize, len),
+        end: u8::from(end_by(size, place as usize, len)),
     }
 }
 
@@ -45,22 +45,16 @@ pub fn text_place_at(table: &[u8], at: usize) -> TextPlace
 {
     let offset = be16_at(table, at);
     let len = string_bytes(table, offset as usize).len();
-    if (offset == 0) | !(0 < len) {
+    if offset == 0 || len == 0 {
         return NO_TEXT;
     }
     text_at(table.len(), offset as u32, len)
 }
 
 // Whether one of a track's texts ended by other than a zero byte.
+#[tactic(auto, unfolding(crate::specs::TextPlaces::any_unterminated, crate::specs::TextPlaces::is_unterminated))]
 pub(crate) fn any_unterminated(texts: [TextPlace; TRACK_TEXTS]) -> bool
     ensures { result ≡ any_unterminated texts }
 {
-    let mut any = false;
-    let mut i = 0;
-    while i < TRACK_TEXTS {
-        let text = texts[i];
-        any = any | ((text.end != NO_END) & (text.end != ENDED_BY_ZERO_BYTE));
-        i += 1;
-    }
-    any
+    texts.iter().any(|text| text.end != NO_END && text.end != StringEnd::ZeroByte as u8)
 }

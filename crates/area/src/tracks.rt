@@ -14,6 +14,7 @@ use crate::track::{Track, no_track, text_place};
 fn put_track(tracks: &mut [Track], at: usize, track: Track)
     ensures { tracks.new ≡ set tracks.old at track }
 {
+    // By its index: of a slice that lent by `get_mut` a proof knows no element afterwards.
     if at < tracks.len() {
         tracks[at] = track;
     }
@@ -23,20 +24,15 @@ fn put_track(tracks: &mut [Track], at: usize, track: Track)
 pub fn track_at(tracks: &[Track], at: usize) -> Track
     ensures { result ≡ get_or tracks.now at no_track }
 {
-    if at < tracks.len() {
-        return tracks[at];
-    }
-    no_track()
+    tracks.get(at).copied().unwrap_or_else(no_track)
 }
 
 // Where the text of an item index of the track at a place of a list stands; 0 past the list's end.
+#[tactic(auto, using(crate::proofs::TextDecodeLaws::no_track_place))]
 pub fn place_at(tracks: &[Track], at: usize, item: u32) -> u32
     ensures { result ≡ place_of (get_or tracks.now at no_track).text item }
 {
-    if at < tracks.len() {
-        return text_place(tracks[at], item);
-    }
-    0
+    tracks.get(at).map_or(0, |track| text_place(track, item))
 }
 
 // Fills a list with the tracks of a table from a place on, and words with their warnings from a count on: the count of words then.
@@ -54,16 +50,11 @@ pub fn fill_tracks(
         × ((tracks.new ≡ sets tracks.old base (tracks_in lent.now head))
         × (words.new ≡ sets words.old count (map word_of (warnings_in lent.now head)))) }
 {
-    let n = track_count(head);
-    let mut at = base as usize;
-    let mut c = count;
-    let mut i = 0;
-    while i < n {
-        let t = next_track(lent, head, i, words, c);
-        put_track(tracks, at, t.track);
-        c = t.count;
-        at += 1;
-        i += 1;
+    let mut written = count;
+    for i in 0..track_count(head) {
+        let next = next_track(lent, head, i, words, written);
+        put_track(tracks, base as usize + i, next.track);
+        written = next.count;
     }
-    c
+    written
 }

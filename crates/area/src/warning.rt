@@ -1,32 +1,46 @@
 // Warnings as words, written into lent words.
-ghost use Rattle.std.specs.Prelude.{◌≡◌, map};
+ghost use Rattle.std.specs.Prelude.{◌≡◌, map, option_to_list};
 ghost use Rattle.std.proofs.lemmas.List.Edits.{sets};
 ghost use Rattle.area.specs.Warning.{word_of};
-ghost use Rattle.area.specs.Lent.{when_true, counted};
+ghost use Rattle.area.specs.Lent.{counted};
 
-// Codes, in the order of `WarningCode`.
-pub const AREA_SIGNATURE_INVALID: u8 = 8;
+// What a reading warns of: the codes of `WarningCode` in its order, and behind them one of our own.
+#[derive(Clone, Copy, Debug, PartialEq, Eq)]
+pub enum WarningCode {
+    MasterTextMissing = 1,
+    ManufacturerMissing = 2,
+    AreaTocTooLarge = 3,
+    AreaToc1Unreadable = 4,
+    AreaToc2Unreadable = 5,
+    AreaTocCopiesDiffer = 6,
+    AreaTocUnreadable = 7,
+    AreaSignatureInvalid = 8,
+    AreaTrackListMissing = 9,
+    AreaTocMalformed = 10,
+    AreaAudioRangeReversed = 11,
+    TrackTextOffsetInvalid = 12,
+    TrackTextTypeUnknown = 13,
+    TrackPastPlaytime = 14,
+    TrackLsnOutsideArea = 15,
+    AudioSectorMalformed = 16,
+    MasterTocCopiesDiffer = 17,
+    SampleFrequencyUnknown = 18,
+    TrackTextUnterminated = 19,
+}
 
-pub const AREA_TRACK_LIST_MISSING: u8 = 9;
+impl From<WarningCode> for u8 {
+    ghost use Rattle.area.specs.Warning.{number_of};
 
-pub const AREA_TOC_MALFORMED: u8 = 10;
+    ghost from_gives = { λ code n. n ≡ number_of code };
 
-pub const AREA_AUDIO_RANGE_REVERSED: u8 = 11;
-
-pub const TRACK_TEXT_OFFSET_INVALID: u8 = 12;
-
-pub const TRACK_TEXT_TYPE_UNKNOWN: u8 = 13;
-
-pub const TRACK_PAST_PLAYTIME: u8 = 14;
-
-pub const TRACK_LSN_OUTSIDE_AREA: u8 = 15;
-
-pub const SAMPLE_FREQUENCY_UNKNOWN: u8 = 18;
-
-// Not in `WarningCode`.
-pub const TRACK_TEXT_UNTERMINATED: u8 = 19;
+    #[tactic(auto, unfolding(crate::specs::Warning::number_of))]
+    fn from(code: WarningCode) -> u8 {
+        code as u8
+    }
+}
 
 // A warning: its code, the slot (0 for the disc) and the track (0 for none).
+// The code is by its number, since `warning_of` of the listing has a warning for every word, also for one of no known code.
 #[derive(Clone, Copy)]
 pub struct Warning {
     pub code: u8,
@@ -42,18 +56,17 @@ fn word(warning: Warning) -> u32
     warning.code as u32 * 65536 + warning.slot as u32 * 256 + warning.track as u32
 }
 
-// Writes a warning's word at the place that a count names, if it is to be given and fits; the count of words then.
-#[tactic(auto, unfolding(crate::specs::Lent::when_true, crate::specs::Lent::counted))]
-pub fn push(words: &mut [u32], count: usize, given: bool, warning: Warning) -> usize
-    ensures written { words.new ≡ sets words.old count (map word_of (when_true given warning)) }
-    ensures counted { result ≡ counted words.old count (when_true given warning) }
+// Writes the word of a warning, if there is one, at the place that a count names, if it fits; the count of words then.
+#[tactic(auto, unfolding(crate::specs::Lent::counted))]
+pub fn push(words: &mut [u32], count: usize, warning: Option<Warning>) -> usize
+    ensures written { words.new ≡ sets words.old count (map word_of (option_to_list warning)) }
+    ensures counted { result ≡ counted words.old count (option_to_list warning) }
 {
-    if !given {
-        return count;
+    match warning {
+        Some(warning) if count < words.len() => {
+            words[count] = word(warning);
+            count + 1
+        }
+        _ => count,
     }
-    if words.len() <= count {
-        return count;
-    }
-    words[count] = word(warning);
-    count + 1
 }

@@ -1,4 +1,3 @@
-pub mod Spelled
 pub mod Consequences
 pub mod CappingLaws
 pub mod CappingCalls

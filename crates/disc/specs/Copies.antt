@@ -14,7 +14,6 @@ use Rattle.area.specs.declared.area.Area.{Area}
 use Rattle.area.specs.declared.track.Track.{Track}
 use Rattle.area.specs.declared.warning.Warning.{Warning}
 use Rattle.disc.specs.Slot.{Slot, slot_number}
-use Rattle.disc.specs.Master.{no_pointer}
 use Rattle.disc.specs.Warning.{area_toc_too_large, area_toc1_unreadable, area_toc2_unreadable, area_toc_copies_differ, area_toc_unreadable}
 use Rattle.disc.specs.declared.master.AreaPointer.{AreaPointer}
 use Rattle.disc.specs.declared.copies.SlotCopies.{SlotCopies}
@@ -137,7 +136,3 @@ second_readable format bytes p = is_served p && has_second p && readable format 
 -- the address of the copy that is read
 unfoldable pub chosen_lsn : AreaPointer → Bool → Lsn
 chosen_lsn p toc1 = cond toc1 p.toc1_lsn p.toc2_lsn
-
--- what is known where no slot is used
-unfoldable pub no_copies : SlotCopies
-no_copies = record { pointer = no_pointer; toc1 = false; toc2 = false; differ = false }

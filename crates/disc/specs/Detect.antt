@@ -1,10 +1,11 @@
 -- Which format an image stores its sectors in, found as `Image::open` of image.rs finds it: beyond 01, which leaves detection out. Assumes
 -- nothing.
-use Rattle.std.specs.Prelude.{ℕ, cond, List, [], ◌∷◌}
+use Rattle.std.specs.Prelude.{ℕ, cond, List, [], ◌∷◌, Result, Ok, Err}
 use Rattle.sectors.specs.Sector.{begins_with}
 use Rattle.disc.specs.Master.{master_lsn, master_signature}
-use Rattle.disc.specs.Refusal.{not_scarlet_book}
+use Rattle.disc.specs.Refusal.{not_scarlet_book, number_of}
 use Rattle.disc.specs.declared.detect.DetectAnswer.{DetectAnswer}
+use Rattle.disc.specs.declared.refusal.DiscRefusal.{DiscRefusal}
 
 -- `DETECTION_ORDER` of image.rs, `Plain`, `Raw2064`, `Raw2054`, by number
 abbrev pub detection_order : List ℕ
@@ -23,3 +24,8 @@ first_of image (format ∷ formats) =
 -- of the three, in that order
 unfoldable pub detected : List ℕ → DetectAnswer
 detected image = first_of image detection_order
+
+-- "a definition states this paper's number and values for each of the enum's cases" (01): the format, or a refusal and 0
+unfoldable pub detected_by : Result ℕ DiscRefusal → DetectAnswer
+detected_by (Ok format) = in_format format
+detected_by (Err r) = record { refusal = number_of r; sector_format = 0 }

@@ -5,6 +5,7 @@ pub mod Refusal
 pub mod Copies
 pub mod Outcome
 pub mod Detect
+pub mod DetectLaws
 pub mod Disc
 pub mod Steps
 pub mod TextDecode

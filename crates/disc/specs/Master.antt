@@ -111,11 +111,13 @@ disc_texts = 16
 abbrev pub disc_texts_offset : ℕ
 disc_texts_offset = 16
 
--- their places in sector 1; none without `SACDText`
+-- their places in a text sector
+unfoldable pub sector_texts : List ℕ → List TextPlace
+sector_texts sector = tabulate disc_texts (λ item. text_place_at sector (disc_texts_offset + 2 * item))
+
+-- .. in sector 1; none without `SACDText`
 unfoldable pub disc_texts_at : List ℕ → List TextPlace
-disc_texts_at table =
-    cond (has_text table) (tabulate disc_texts (λ item. text_place_at (text_sector table) (disc_texts_offset + 2 * item)))
-    (replicate disc_texts no_text_place)
+disc_texts_at table = cond (has_text table) (sector_texts (text_sector table)) (replicate disc_texts no_text_place)
 
 -- "The manufacturer is a flag, its 2,040 bytes standing in the master region."
 unfoldable pub manufacturer_flag : List ℕ → ℕ

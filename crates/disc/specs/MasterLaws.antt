@@ -3,10 +3,10 @@ use Rattle.std.specs.Prelude.{Bool, true, false, cond, List, ℕ, ◌+◌, ◌*�
 use Rattle.area.specs.Tabulate.{tabulate}
 use Rattle.area.specs.TextPlaces.{no_text_place, text_place_at}
 use Rattle.area.proofs.TextPlaceLaws.{AllTold, offsets_told, none_told}
-use Rattle.disc.specs.Master.{disc_texts, disc_texts_offset, has_text, text_sector, disc_texts_at}
+use Rattle.disc.specs.Master.{disc_texts, disc_texts_offset, has_text, text_sector, sector_texts, disc_texts_at}
 
 pub disc_told : (table : List ℕ) → AllTold (text_sector table) (disc_texts_at table)
-unfolding disc_texts_at
+unfolding sector_texts disc_texts_at
 disc_told table = go (has_text table)
   where
     go : (t : Bool) → AllTold (text_sector table)

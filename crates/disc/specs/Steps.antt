@@ -15,9 +15,9 @@ use Rattle.area.specs.declared.warning.Warning.{Warning}
 use Rattle.disc.specs.Slot.{two_channel, multichannel, master_region, region_of}
 use Rattle.disc.specs.Master.{master_bytes, is_scarlet_book, is_newer, pointer_of, master_of}
 use Rattle.disc.specs.Refusal.{not_scarlet_book, version_unsupported}
-use Rattle.disc.specs.Copies.{copies_of, copy_warnings, chosen_lsn, no_copies}
+use Rattle.disc.specs.Copies.{copies_of, copy_warnings, chosen_lsn}
 use Rattle.disc.specs.Outcome.{is_present}
-use Rattle.disc.specs.Disc.{Master, refused, reads, master_copies_differ, disc_warnings, work_after, refusal, silent}
+use Rattle.disc.specs.Disc.{Master, refused, reads, master_copies_differ, disc_warnings, silent}
 use Rattle.disc.specs.declared.master.AreaPointer.{AreaPointer}
 use Rattle.disc.specs.declared.copies.SlotCopies.{SlotCopies}
 use Rattle.disc.specs.declared.fetch.Fetched.{Fetched}
@@ -51,23 +51,17 @@ fetched_of source table = record {
   second = copies_of source (pointer_of table multichannel);
 }
 
--- a refusal, or the tables in their regions and the disc's warnings
-unfoldable pub opened_of : Source → Master → Opened
-opened_of source (refused number) = record { refusal = number; count = 0; first = no_copies; second = no_copies }
-opened_of source (reads table) = record {
-  refusal = 0;
+-- what is known once a master table is read
+unfoldable pub opened_of : Source → List ℕ → Opened
+opened_of source table = record {
   count = length (disc_warnings (master_copies_differ source table) table);
   first = copies_of source (pointer_of table two_channel);
   second = copies_of source (pointer_of table multichannel);
 }
 
-unfoldable pub opened_work : Source → Master → List ℕ → List ℕ
-opened_work source (refused number) old = old
-opened_work source (reads table) old = work_after source table old
-
-unfoldable pub opened_words : Source → Master → List ℕ → List ℕ
-opened_words source (refused number) old = old
-opened_words source (reads table) old = fill 0 (map word_of (disc_warnings (master_copies_differ source table) table)) old
+-- the words then: the disc's warnings fill the first
+unfoldable pub opened_words : Source → List ℕ → List ℕ → List ℕ
+opened_words source table old = fill 0 (map word_of (disc_warnings (master_copies_differ source table) table)) old
 
 -- ---- judging
 -- the head of a slot's table, if a copy of it is there
@@ -99,7 +93,7 @@ unfoldable pub slot_read_of : SlotPlan → ℕ → SlotRead
 slot_read_of plan count = record { count = count; area = plan.head.area }
 
 -- ---- answering
--- the answer by what was opened and read
+-- the answer by what was read
 unfoldable pub read_answer : ℕ → ℕ → List ℕ → SlotRead → SlotRead → DiscAnswer
 read_answer format sectors table first second = record {
   refusal = 0;
@@ -111,10 +105,8 @@ read_answer format sectors table first second = record {
   multichannel = second.area;
 }
 
-unfoldable pub answer_by : ℕ → ℕ → List ℕ → Opened → SlotRead → SlotRead → DiscAnswer
-answer_by format bytes work opened first second =
-    cond (eqb opened.refusal 0)
-    (cond (is_present first.area || is_present second.area)
+unfoldable pub answer_from : ℕ → ℕ → List ℕ → SlotRead → SlotRead → DiscAnswer
+answer_from format bytes work first second =
+    cond (is_present first.area || is_present second.area)
     (read_answer format (sector_count format bytes) (part master_region master_bytes work) first second)
-    (silent (part master_region master_bytes work) second.count))
-    (refusal opened.refusal)
+    (silent (part master_region master_bytes work) second.count)

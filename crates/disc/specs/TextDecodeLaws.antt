@@ -1,6 +1,6 @@
 -- Laws of decoding after a disc reading: what its answer and its page are, by what was found; when it is refused, and which texts are absent.
 -- Assumes nothing.
-use Rattle.std.specs.Prelude.{◌≡◌, Bool, true, false, cond, ◌||◌, List, [], ℕ, ◌≤◌, leb, ltb, eqb, length}
+use Rattle.std.specs.Prelude.{◌≡◌, Bool, true, false, cond, ◌||◌, List, [], ℕ, ◌≤◌, leb, ltb, eqb, length, Err}
 use Rattle.std.proofs.Math.Path.{refl}
 use Rattle.std.proofs.Common.{sym, ap, ◌∙◌, arith, ltb-false}
 use Rattle.sectors.specs.Fill.{part}
@@ -8,8 +8,11 @@ use Rattle.sectors.specs.FillLaws.{part_size, part_length}
 use Rattle.sectors.specs.Format.{sector_size}
 use Rattle.sectors.specs.Refusal.{short_buffer, no_such_entry}
 use Rattle.text.proofs.StringLaws.{placed_past}
-use Rattle.text.specs.Decode.{decode_of, decode_into}
+use Rattle.text.proofs.AnswerLaws.{answer_short_buffer, answer_no_such_entry}
+use Rattle.text.proofs.DecodeLaws.{refusing_is}
+use Rattle.text.specs.Decode.{decode_of, decode_into, answer_by}
 use Rattle.text.specs.declared.decode.DecodeAnswer.{DecodeAnswer}
+use Rattle.text.specs.declared.decode.DecodeRefusal.TheVariants as refusal
 use Rattle.area.specs.Area.{area_texts}
 use Rattle.area.specs.Limits.{max_table_bytes, max_tracks}
 use Rattle.area.specs.TestLaws.{or_left}
@@ -32,6 +35,12 @@ asked_same text same words old answer page e a p =
 module _ (words page : List ℕ) where
   pub refused_answer : (number : ℕ) → text_answer (refused number) words (length page) ≡ record { refusal = number; len = 0 }
   refused_answer number = sym (asked_refused (refused number) words page number refl).0
+
+  pub short_answer : answer_by (Err refusal.ShortBuffer) ≡ text_answer (refused short_buffer) words (length page)
+  short_answer = answer_short_buffer ∙ refusing_is short_buffer ∙ sym (refused_answer short_buffer)
+
+  pub missing_answer : answer_by (Err refusal.NoSuchEntry) ≡ text_answer (refused no_such_entry) words (length page)
+  missing_answer = answer_no_such_entry ∙ refusing_is no_such_entry ∙ sym (refused_answer no_such_entry)
 
   pub refused_page : (number : ℕ) → text_page (refused number) words page ≡ page
   refused_page number = sym (asked_refused (refused number) words page number refl).1

@@ -2,13 +2,14 @@
 ghost use Rattle.std.specs.Prelude.{◌≡◌};
 ghost use Rattle.disc.specs.Disc.{refusal, silent};
 ghost use Rattle.disc.specs.Outcome.{is_present};
-ghost use Rattle.disc.specs.Steps.{read_answer, answer_by};
+ghost use Rattle.disc.specs.Refusal.{number_of};
+ghost use Rattle.disc.specs.Steps.{read_answer, answer_from};
 
-use crate::disc::{Opened, SlotRead};
+use crate::disc::SlotRead;
 use crate::master::{MasterToc, master_of, no_master};
+use crate::refusal::DiscRefusal;
 use crate::regions::master_region;
 use area::area::{Area, no_area};
-use area::refusal::NO_AUDIO_AREAS;
 use sectors::sector::sector_count;
 
 // A refusal, or 0 and the records; the count of warnings and the master record with refusal 6 too.
@@ -26,11 +27,11 @@ pub struct DiscAnswer {
 
 // A refusal that reads nothing.
 #[tactic(auto, unfolding(crate::specs::Disc::refusal))]
-fn refused(number: u8) -> DiscAnswer
-    ensures { result ≡ refusal number }
+pub(crate) fn refused(reason: DiscRefusal) -> DiscAnswer
+    ensures { result ≡ refusal (number_of reason) }
 {
     DiscAnswer {
-        refusal: number,
+        refusal: reason.into(),
         warnings: 0,
         sector_format: 0,
         sectors: 0,
@@ -46,7 +47,7 @@ fn silent(table: &[u8], warnings: usize) -> DiscAnswer
     ensures { result ≡ silent table.now warnings }
 {
     DiscAnswer {
-        refusal: NO_AUDIO_AREAS,
+        refusal: DiscRefusal::NoAudioAreas as u8,
         warnings,
         sector_format: 0,
         sectors: 0,
@@ -67,16 +68,14 @@ fn accepted(
 ) -> DiscAnswer
     ensures { result ≡ read_answer format sectors table.now first second }
 {
-    let two_channel = first.area;
-    let multichannel = second.area;
     DiscAnswer {
         refusal: 0,
         warnings: second.count,
         sector_format: format,
         sectors,
         master: master_of(table),
-        two_channel,
-        multichannel,
+        two_channel: first.area,
+        multichannel: second.area,
     }
 }
 
@@ -85,25 +84,20 @@ fn accepted(
 fn has_area(read: SlotRead) -> bool
     ensures { result ≡ is_present read.area }
 {
-    let area = read.area;
-    area.present == 1
+    read.area.present == 1
 }
 
-// The answer by what was opened and read.
-#[tactic(auto, unfolding(crate::specs::Steps::answer_by))]
+// The answer by what was read.
+#[tactic(auto, unfolding(crate::specs::Steps::answer_from))]
 pub(crate) fn disc_answer(
     format: u32,
     bytes: usize,
     work: &[u8],
-    opened: Opened,
     first: SlotRead,
     second: SlotRead,
 ) -> DiscAnswer
-    ensures { result ≡ answer_by format bytes work.now opened first second }
+    ensures { result ≡ answer_from format bytes work.now first second }
 {
-    if opened.refusal != 0 {
-        return refused(opened.refusal);
-    }
     let table = master_region(work);
     if has_area(first) | has_area(second) {
         return accepted(format, sector_count(format, bytes), table, first, second);

@@ -1,8 +1,8 @@
 // The copies of a slot's table: which are named, which are readable, and whether they differ.
 ghost use Rattle.std.specs.Prelude.{◌≡◌, cond};
-ghost use Rattle.disc.specs.Copies.{is_used, is_too_large, is_served, has_second, no_copies, first_readable, second_readable, chosen_lsn};
+ghost use Rattle.disc.specs.Copies.{is_used, is_too_large, is_served, has_second, first_readable, second_readable, chosen_lsn};
 
-use crate::master::{AreaPointer, no_pointer};
+use crate::master::AreaPointer;
 use area::table::MAX_AREA_TOC_SECTORS;
 use sectors::sector::{Lsn, contains};
 
@@ -20,8 +20,7 @@ pub(crate) struct SlotCopies {
 pub(crate) fn is_used(pointer: AreaPointer) -> bool
     ensures { result ≡ is_used pointer }
 {
-    let toc1 = pointer.toc1_lsn;
-    (toc1.0 != 0) & (pointer.toc_sectors != 0)
+    (pointer.toc1_lsn.0 != 0) & (pointer.toc_sectors != 0)
 }
 
 // Whether a slot has too many sectors to be read.
@@ -45,8 +44,7 @@ fn is_served(pointer: AreaPointer) -> bool
 pub(crate) fn has_second(pointer: AreaPointer) -> bool
     ensures { result ≡ has_second pointer }
 {
-    let toc2 = pointer.toc2_lsn;
-    toc2.0 != 0
+    pointer.toc2_lsn.0 != 0
 }
 
 // Whether the first copy is to be read, and is in an image of so many bytes.
@@ -87,17 +85,4 @@ pub(crate) fn chosen_lsn(pointer: AreaPointer, toc1: bool) -> Lsn
         return pointer.toc1_lsn;
     }
     pointer.toc2_lsn
-}
-
-// The copies of a slot that is not used.
-#[tactic(auto, unfolding(crate::specs::Copies::no_copies))]
-pub(crate) fn no_copies() -> SlotCopies
-    ensures { result ≡ no_copies }
-{
-    SlotCopies {
-        pointer: no_pointer(),
-        toc1: false,
-        toc2: false,
-        differ: false,
-    }
 }

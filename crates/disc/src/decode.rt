@@ -1,6 +1,7 @@
 // Decoding of texts after a disc reading. Nothing of what is lent or handed in is trusted.
 ghost use Rattle.std.specs.Prelude.{◌≡◌, length};
 ghost use Rattle.area.specs.TextDecode.{text_answer, text_page};
+ghost use Rattle.text.specs.Decode.{answer_by};
 ghost use Rattle.disc.specs.TextDecode.{disc_text_sector, disc_text_in, area_text_on, track_place, track_text_on, track_text_at};
 
 use crate::master::{DISC_TEXTS, MasterToc};
@@ -11,9 +12,8 @@ use area::decode::{decode_area_text, decode_of_track};
 use area::table::MAX_TRACKS;
 use area::track::Track;
 use area::tracks::place_at;
-use sectors::refusal::{NO_SUCH_ENTRY, SHORT_BUFFER};
 use sectors::sector::SECTOR_SIZE;
-use text::decode::DecodeAnswer;
+use text::decode::DecodeRefusal;
 use text::stored::decode_placed;
 
 // Sector 1 of the master table, where the disc's texts stand.
@@ -25,55 +25,49 @@ fn disc_text_sector<'a>(work: &'a [u8]) -> &'a [u8]
 }
 
 // Decodes a text of the disc, by its item index, to the start of a page.
-#[tactic(auto, using(crate::specs::TextDecodeLaws::refused_answer, crate::specs::TextDecodeLaws::refused_page, crate::specs::TextDecodeLaws::found_answer, crate::specs::TextDecodeLaws::found_page), unfolding(crate::specs::TextDecode::disc_text_in, crate::specs::TextDecode::disc_text_at, crate::specs::TextDecode::disc_place, crate::specs::TextDecode::work_short))]
+#[tactic(auto, using(crate::specs::TextDecodeLaws::short_answer, crate::specs::TextDecodeLaws::missing_answer, crate::specs::TextDecodeLaws::refused_page, crate::specs::TextDecodeLaws::found_answer, crate::specs::TextDecodeLaws::found_page), unfolding(crate::specs::TextDecode::disc_text_in, crate::specs::TextDecode::disc_text_at, crate::specs::TextDecode::disc_place, crate::specs::TextDecode::work_short))]
 pub fn decode_disc_text(
     work: &[u8],
     master: MasterToc,
     item: u32,
     mapping: &[u32],
     page: &mut [u8],
-) -> DecodeAnswer
-    ensures answer { result ≡ text_answer (disc_text_in work.now master item) mapping.now (length page.old) }
+) -> Result<usize, DecodeRefusal>
+    ensures answer { answer_by result ≡ text_answer (disc_text_in work.now master item) mapping.now (length page.old) }
     ensures filled { page.new ≡ text_page (disc_text_in work.now master item) mapping.now page.old }
 {
     if work.len() < WORK_BYTES {
-        return DecodeAnswer {
-            refusal: SHORT_BUFFER,
-            len: 0,
-        };
+        return Err(DecodeRefusal::ShortBuffer);
     }
-    if DISC_TEXTS <= item as usize {
-        return DecodeAnswer {
-            refusal: NO_SUCH_ENTRY,
-            len: 0,
-        };
-    }
-    let places = master.text;
-    let text = places[item as usize];
-    let sector = disc_text_sector(work);
-    decode_placed(sector, text.place, master.text_charset, mapping, page)
+    let text = master
+        .text
+        .get(item as usize)
+        .ok_or(DecodeRefusal::NoSuchEntry)?;
+    decode_placed(
+        disc_text_sector(work),
+        text.place,
+        master.text_charset,
+        mapping,
+        page,
+    )
 }
 
 // Decodes a text of an area, by its item index, to the start of a page.
-#[tactic(auto, using(crate::specs::TextDecodeLaws::refused_answer, crate::specs::TextDecodeLaws::refused_page), unfolding(crate::specs::TextDecode::area_text_on, crate::specs::TextDecode::work_short))]
+#[tactic(auto, using(crate::specs::TextDecodeLaws::short_answer, crate::specs::TextDecodeLaws::missing_answer, crate::specs::TextDecodeLaws::refused_page), unfolding(crate::specs::TextDecode::area_text_on, crate::specs::TextDecode::work_short))]
 pub fn decode_disc_area_text(
     work: &[u8],
     area: Area,
     item: u32,
     mapping: &[u32],
     page: &mut [u8],
-) -> DecodeAnswer
-    ensures answer { result ≡ text_answer (area_text_on work.now area item) mapping.now (length page.old) }
+) -> Result<usize, DecodeRefusal>
+    ensures answer { answer_by result ≡ text_answer (area_text_on work.now area item) mapping.now (length page.old) }
     ensures filled { page.new ≡ text_page (area_text_on work.now area item) mapping.now page.old }
 {
     if work.len() < WORK_BYTES {
-        return DecodeAnswer {
-            refusal: SHORT_BUFFER,
-            len: 0,
-        };
+        return Err(DecodeRefusal::ShortBuffer);
     }
-    let origin = area.origin;
-    decode_area_text(region_of(work, origin.slot), area, item, mapping, page)
+    decode_area_text(region_of(work, area.origin.slot), area, item, mapping, page)
 }
 
 // The place in the list of an area's track of a number; for 0 that of its first.
@@ -81,16 +75,11 @@ pub fn decode_disc_area_text(
 fn track_place(area: Area, number: u32) -> usize
     ensures { result ≡ track_place area number }
 {
-    let origin = area.origin;
-    let first = tracks_from(origin.slot) as usize;
-    if number == 0 {
-        return first;
-    }
-    first + (number - 1) as usize
+    tracks_from(area.origin.slot) as usize + number.saturating_sub(1) as usize
 }
 
 // Decodes the text that a track of a list of so many has at a place, by the track's number and the item index.
-#[tactic(auto, using(crate::specs::TextDecodeLaws::refused_answer, crate::specs::TextDecodeLaws::refused_page), unfolding(crate::specs::TextDecode::track_text_on, crate::specs::TextDecode::lent_short, crate::specs::TextDecode::work_short))]
+#[tactic(auto, using(crate::specs::TextDecodeLaws::short_answer, crate::specs::TextDecodeLaws::missing_answer, crate::specs::TextDecodeLaws::refused_page), unfolding(crate::specs::TextDecode::track_text_on, crate::specs::TextDecode::lent_short, crate::specs::TextDecode::work_short))]
 fn decode_of_disc_track(
     work: &[u8],
     area: Area,
@@ -100,18 +89,14 @@ fn decode_of_disc_track(
     item: u32,
     mapping: &[u32],
     page: &mut [u8],
-) -> DecodeAnswer
-    ensures answer { result ≡ text_answer (track_text_on work.now area room place number item) mapping.now (length page.old) }
+) -> Result<usize, DecodeRefusal>
+    ensures answer { answer_by result ≡ text_answer (track_text_on work.now area room place number item) mapping.now (length page.old) }
     ensures filled { page.new ≡ text_page (track_text_on work.now area room place number item) mapping.now page.old }
 {
     if (work.len() < WORK_BYTES) | (room < TRACK_RECORDS) {
-        return DecodeAnswer {
-            refusal: SHORT_BUFFER,
-            len: 0,
-        };
+        return Err(DecodeRefusal::ShortBuffer);
     }
-    let origin = area.origin;
-    let table = region_of(work, origin.slot);
+    let table = region_of(work, area.origin.slot);
     decode_of_track(table, area, MAX_TRACKS, place, number, item, mapping, page)
 }
 
@@ -125,8 +110,8 @@ pub fn decode_disc_track_text(
     item: u32,
     mapping: &[u32],
     page: &mut [u8],
-) -> DecodeAnswer
-    ensures { (result ≡ text_answer (track_text_at work.now area tracks.now number item) mapping.now (length page.old))
+) -> Result<usize, DecodeRefusal>
+    ensures { (answer_by result ≡ text_answer (track_text_at work.now area tracks.now number item) mapping.now (length page.old))
         × (page.new ≡ text_page (track_text_at work.now area tracks.now number item) mapping.now page.old) }
 {
     let place = place_at(tracks, track_place(area, number), item);

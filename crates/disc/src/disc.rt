@@ -1,25 +1,29 @@
 // Disc reading from one lent image.
-ghost use Rattle.std.specs.Prelude.{◌≡◌, map, length};
+ghost use Rattle.std.specs.Prelude.{◌≡◌, map, length, IfOk, OnOk, OnErr};
 ghost use Rattle.std.proofs.lemmas.List.Edits.{sets};
 ghost use Rattle.area.specs.Warning.{word_of};
+ghost use Rattle.sectors.specs.Sector.{run_data};
 ghost use Rattle.sectors.specs.Source.{image_source};
-ghost use Rattle.disc.specs.Disc.{image_master, read_disc};
-ghost use Rattle.disc.specs.Steps.{opened_of, opened_work, opened_words, slot_read_of, slot_read_by, slot_tracks, slot_notes};
+ghost use Rattle.disc.specs.Disc.{image_master, work_after, read_disc};
+ghost use Rattle.disc.specs.Master.{master_lsn, master_sectors};
+ghost use Rattle.disc.specs.Refusal.{refused_by};
+ghost use Rattle.disc.specs.Steps.{refusal_of, opened_of, opened_words, slot_read_of, slot_read_by, slot_tracks, slot_notes};
 ghost use Rattle.disc.specs.Slot.{tracks_from};
 
-use crate::answer::{DiscAnswer, disc_answer};
-use crate::copies::{SlotCopies, no_copies};
-use crate::fetch::{fetch, open_refusal};
+use crate::answer::{DiscAnswer, disc_answer, refused};
+use crate::copies::SlotCopies;
+use crate::fetch::{check_disc, fetch};
 use crate::judge::{SlotPlan, plan_slot, push_disc};
+use crate::refusal::DiscRefusal;
 use crate::regions::{MULTICHANNEL_SLOT, TWO_CHANNEL_SLOT, master_region, region_of, tracks_from};
 use area::area::Area;
 use area::track::Track;
 use area::tracks::fill_tracks;
+use sectors::sector::Image;
 
-// What is known once the master table is read: a refusal, or the count of the disc's warnings and what is known of each slot's copies.
+// What is known once the master table is read: the count of the disc's warnings, and what is known of each slot's copies.
 #[derive(Clone, Copy)]
 pub(crate) struct Opened {
-    pub refusal: u8,
     pub count: usize,
     pub first: SlotCopies,
     pub second: SlotCopies,
@@ -33,36 +37,27 @@ pub(crate) struct SlotRead {
 }
 
 // Refuses a disc, or fetches its tables into their regions and writes the disc's warnings.
+#[tactic(auto, unfolding(crate::specs::Refusal::refused_by))]
 pub(crate) fn open(
-    format: u32,
-    image: &[u8],
+    image: Image,
     work: &mut [u8],
     records: usize,
     words: &mut [u32],
-) -> Opened
-    ensures { (result ≡ opened_of (image_source format image.now) (image_master format image.now (length work.old) records (length words.old)))
-        × ((work.new ≡ opened_work (image_source format image.now) (image_master format image.now (length work.old) records (length words.old)) work.old)
-        × (words.new ≡ opened_words (image_source format image.now) (image_master format image.now (length work.old) records (length words.old)) words.old)) }
+) -> Result<Opened, DiscRefusal>
+    ensures refused { refused_by result ≡ refusal_of (image_master image.entry.format image.entry.bytes.now (length work.old) records (length words.old)) }
+    ensures opened { IfOk result (λ o. o ≡ opened_of (image_source image.entry.format image.entry.bytes.now) (run_data image.entry.format image.entry.bytes.now master_lsn master_sectors)) }
+    ensures filled { OnOk result (work.new ≡ work_after (image_source image.entry.format image.entry.bytes.now) (run_data image.entry.format image.entry.bytes.now master_lsn master_sectors) work.old) }
+    ensures warned { OnOk result (words.new ≡ opened_words (image_source image.entry.format image.entry.bytes.now) (run_data image.entry.format image.entry.bytes.now master_lsn master_sectors) words.old) }
+    ensures kept { OnErr result ((work.new ≡ work.old) × (words.new ≡ words.old)) }
 {
-    let refusal = open_refusal(format, image, work.len(), records, words.len());
-    if refusal != 0 {
-        return Opened {
-            refusal,
-            count: 0,
-            first: no_copies(),
-            second: no_copies(),
-        };
-    }
-    let fetched = fetch(format, image, work);
-    let first = fetched.first;
-    let second = fetched.second;
+    check_disc(image, work.len(), records, words.len())?;
+    let fetched = fetch(image, work);
     let count = push_disc(words, fetched.differ, master_region(work));
-    Opened {
-        refusal: 0,
+    Ok(Opened {
         count,
-        first,
-        second,
-    }
+        first: fetched.first,
+        second: fetched.second,
+    })
 }
 
 // What a slot gives, by its plan and the count of all its warnings.
@@ -70,9 +65,10 @@ pub(crate) fn open(
 pub(crate) fn slot_read(plan: SlotPlan, count: usize) -> SlotRead
     ensures { result ≡ slot_read_of plan count }
 {
-    let head = plan.head;
-    let area = head.area;
-    SlotRead { count, area }
+    SlotRead {
+        count,
+        area: plan.head.area,
+    }
 }
 
 // Reads a slot from its region: its area's record, its tracks into their places, its warnings from a count on.
@@ -89,10 +85,9 @@ fn read_slot(
         × (words.new ≡ sets words.old count (map word_of (slot_notes work.now slot copies)))) }
 {
     let plan = plan_slot(work, slot, copies, words, count);
-    let head = plan.head;
     let n = fill_tracks(
         region_of(work, slot),
-        head,
+        plan.head,
         tracks,
         tracks_from(slot),
         words,
@@ -102,7 +97,8 @@ fn read_slot(
 }
 
 // Reads a disc: its master record and the records of its areas, its tables into the work bytes, its tracks into a list, its warnings into
-// words. Refusals 1 to 5 change nothing; 6 gives the warning count and the master record.
+// words. Refusals 1 to 5 change nothing; 6 gives the warning count and the master record. (Image and format stand apart, as in C and in the
+// theorems of `Consequences` on this very contract.)
 pub fn read_disc(
     format: u32,
     image: &[u8],
@@ -115,7 +111,14 @@ pub fn read_disc(
         × ((tracks.new ≡ (read_disc format image.now (record { work = work.old; tracks = tracks.old; words = words.old })).memory.tracks)
         × (words.new ≡ (read_disc format image.now (record { work = work.old; tracks = tracks.old; words = words.old })).memory.words))) }
 {
-    let opened = open(format, image, work, tracks.len(), words);
+    let image = Image {
+        format,
+        bytes: image,
+    };
+    let opened = match open(image, work, tracks.len(), words) {
+        Ok(opened) => opened,
+        Err(refusal) => return refused(refusal),
+    };
     let tables: &[u8] = work;
     let first = read_slot(
         tables,
@@ -133,5 +136,5 @@ pub fn read_disc(
         words,
         first.count,
     );
-    disc_answer(format, image.len(), tables, opened, first, second)
+    disc_answer(format, image.bytes.len(), tables, first, second)
 }

@@ -11,12 +11,8 @@ ghost use Rattle.disc.specs.Steps.{plan_warnings, slot_plan_of};
 use crate::copies::{SlotCopies, chosen_lsn, has_second, is_too_large, is_used};
 use crate::master::{TEXT_CHANNELS_OFFSET, has_manufacturer, has_text};
 use crate::regions::region_of;
-use crate::warning::{
-    AREA_TOC_COPIES_DIFFER, AREA_TOC_TOO_LARGE, AREA_TOC_UNREADABLE, AREA_TOC1_UNREADABLE,
-    AREA_TOC2_UNREADABLE, MANUFACTURER_MISSING, MASTER_TEXT_MISSING, MASTER_TOC_COPIES_DIFFER,
-};
 use area::table::{TableHead, no_head, push_head, table_head};
-use area::warning::{Warning, push};
+use area::warning::{Warning, WarningCode, push};
 use sectors::number::byte_at;
 
 // What is decided of a slot before its tracks are read: the count of warnings, and the head of its table.
@@ -27,21 +23,17 @@ pub(crate) struct SlotPlan {
 }
 
 // Writes a warning of a slot (0: of the disc), if it is to be given.
-#[tactic(auto, using(area::proofs::WarningLaws::of_slot_lem))]
+#[tactic(auto, using(area::proofs::WarningLaws::of_slot_lem, area::specs::LentLaws::when_listed))]
 fn push_of(words: &mut [u32], count: usize, given: bool, code: u8, slot: u8) -> usize
     ensures written { words.new ≡ sets words.old count (map word_of (when_true given (of_slot code slot))) }
     ensures counted { result ≡ counted words.old count (when_true given (of_slot code slot)) }
 {
-    push(
-        words,
-        count,
-        given,
-        Warning {
-            code,
-            slot,
-            track: 0,
-        },
-    )
+    let warning = Warning {
+        code,
+        slot,
+        track: 0,
+    };
+    push(words, count, given.then_some(warning))
 }
 
 // Writes the warnings of the disc: a copy of the master table differs, no text sector, no manufacturer's sector.
@@ -50,9 +42,21 @@ pub(crate) fn push_disc(words: &mut [u32], differ: bool, table: &[u8]) -> usize
     ensures counted { result ≡ counted words.old 0 (disc_warnings differ table.now) }
 {
     let no_text = !has_text(table) & (0 < byte_at(table, TEXT_CHANNELS_OFFSET));
-    let n = push_of(words, 0, differ, MASTER_TOC_COPIES_DIFFER, 0);
-    let m = push_of(words, n, no_text, MASTER_TEXT_MISSING, 0);
-    push_of(words, m, !has_manufacturer(table), MANUFACTURER_MISSING, 0)
+    let n = push_of(
+        words,
+        0,
+        differ,
+        WarningCode::MasterTocCopiesDiffer as u8,
+        0,
+    );
+    let m = push_of(words, n, no_text, WarningCode::MasterTextMissing as u8, 0);
+    push_of(
+        words,
+        m,
+        !has_manufacturer(table),
+        WarningCode::ManufacturerMissing as u8,
+        0,
+    )
 }
 
 // Writes the warnings of a slot's copies that are to be read.
@@ -60,13 +64,30 @@ fn push_unreadable(words: &mut [u32], count: usize, slot: u8, copies: SlotCopies
     ensures written { words.new ≡ sets words.old count (map word_of (served_warnings slot copies)) }
     ensures counted { result ≡ counted words.old count (served_warnings slot copies) }
 {
-    let pointer = copies.pointer;
-    let second = has_second(pointer) & !copies.toc2;
+    let second = has_second(copies.pointer) & !copies.toc2;
     let none = !copies.toc1 & !copies.toc2;
-    let n = push_of(words, count, !copies.toc1, AREA_TOC1_UNREADABLE, slot);
-    let m = push_of(words, n, second, AREA_TOC2_UNREADABLE, slot);
-    let k = push_of(words, m, copies.differ, AREA_TOC_COPIES_DIFFER, slot);
-    push_of(words, k, none, AREA_TOC_UNREADABLE, slot)
+    let n = push_of(
+        words,
+        count,
+        !copies.toc1,
+        WarningCode::AreaToc1Unreadable as u8,
+        slot,
+    );
+    let m = push_of(
+        words,
+        n,
+        second,
+        WarningCode::AreaToc2Unreadable as u8,
+        slot,
+    );
+    let k = push_of(
+        words,
+        m,
+        copies.differ,
+        WarningCode::AreaTocCopiesDiffer as u8,
+        slot,
+    );
+    push_of(words, k, none, WarningCode::AreaTocUnreadable as u8, slot)
 }
 
 // Writes the warnings of a slot's copies.
@@ -75,12 +96,11 @@ fn push_copies(words: &mut [u32], count: usize, slot: u8, copies: SlotCopies) ->
     ensures written { words.new ≡ sets words.old count (map word_of (copy_warnings slot copies)) }
     ensures counted { result ≡ counted words.old count (copy_warnings slot copies) }
 {
-    let pointer = copies.pointer;
-    if !is_used(pointer) {
+    if !is_used(copies.pointer) {
         return count;
     }
-    if is_too_large(pointer) {
-        return push_of(words, count, true, AREA_TOC_TOO_LARGE, slot);
+    if is_too_large(copies.pointer) {
+        return push_of(words, count, true, WarningCode::AreaTocTooLarge as u8, slot);
     }
     push_unreadable(words, count, slot, copies)
 }

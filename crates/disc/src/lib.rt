@@ -9,6 +9,5 @@ pub mod disc;
 mod fetch;
 mod judge;
 pub mod master;
-mod refusal;
+pub mod refusal;
 pub mod regions;
-mod warning;

@@ -1,6 +1,6 @@
 // The master record, from the master table's 20,480 bytes.
 ghost use Rattle.std.specs.Prelude.{◌≡◌};
-ghost use Rattle.disc.specs.Master.{pointer_at, pointer_of, date_at, genres_at, locale_count, locales_at, has_text, has_manufacturer, disc_texts_at, manufacturer_flag, master_of, no_pointer, no_master};
+ghost use Rattle.disc.specs.Master.{pointer_at, pointer_of, date_at, genres_at, locale_count, locales_at, has_text, has_manufacturer, sector_texts, disc_texts_at, manufacturer_flag, master_of, no_master};
 ghost use Rattle.disc.specs.Slot.{two_channel, multichannel};
 
 use area::area::Version;
@@ -44,7 +44,7 @@ const MANUFACTURER_OFFSET: usize = 9 * SECTOR_SIZE;
 
 // What the master table says of a slot: the addresses of its table's two copies, and their sectors.
 #[repr(C)]
-#[derive(Clone, Copy)]
+#[derive(Clone, Copy, Default)]
 pub struct AreaPointer {
     pub toc1_lsn: Lsn,
     pub toc2_lsn: Lsn,
@@ -53,7 +53,7 @@ pub struct AreaPointer {
 
 // A date as stored.
 #[repr(C)]
-#[derive(Clone, Copy)]
+#[derive(Clone, Copy, Default)]
 pub struct Date {
     pub year: u16,
     pub month: u8,
@@ -125,17 +125,11 @@ fn date_at(table: &[u8]) -> Date
 }
 
 // Four genres from a place on.
-#[tactic(auto, using(crate::proofs::Spelled::tabulate_spelled), unfolding(crate::specs::Master::genres_at))]
+#[tactic(auto, using(area::specs::TabulateLaws::tabulated), unfolding(crate::specs::Master::genres_at))]
 fn genres_at(table: &[u8], at: u8) -> [Genre; GENRES]
     ensures { result ≡ genres_at table.now at }
 {
-    let start = at as usize;
-    [
-        genre_at(table, start),
-        genre_at(table, start + 4),
-        genre_at(table, start + 8),
-        genre_at(table, start + 12),
-    ]
+    std::array::from_fn(|k| genre_at(table, at as usize + 4 * k))
 }
 
 // How many locales are listed.
@@ -143,28 +137,15 @@ fn genres_at(table: &[u8], at: u8) -> [Genre; GENRES]
 fn locale_count(channels: u8) -> u8
     ensures { result ≡ locale_count channels }
 {
-    if channels < MAX_DISC_LOCALES as u8 {
-        channels
-    } else {
-        MAX_DISC_LOCALES as u8
-    }
+    channels.min(MAX_DISC_LOCALES as u8)
 }
 
 // The first locales, as many as a count says and the record holds; zero past them.
-#[tactic(auto, using(crate::proofs::Spelled::tabulate_spelled), unfolding(crate::specs::Master::locales_at))]
+#[tactic(auto, using(area::specs::TabulateLaws::tabulated), unfolding(crate::specs::Master::locales_at))]
 fn locales_at(table: &[u8], count: u8) -> [Locale; MAX_DISC_LOCALES]
     ensures { result ≡ locales_at table.now count }
 {
-    [
-        locale_or(table, LOCALES_OFFSET, 0, count),
-        locale_or(table, LOCALES_OFFSET, 1, count),
-        locale_or(table, LOCALES_OFFSET, 2, count),
-        locale_or(table, LOCALES_OFFSET, 3, count),
-        locale_or(table, LOCALES_OFFSET, 4, count),
-        locale_or(table, LOCALES_OFFSET, 5, count),
-        locale_or(table, LOCALES_OFFSET, 6, count),
-        locale_or(table, LOCALES_OFFSET, 7, count),
-    ]
+    std::array::from_fn(|k| locale_or(table, LOCALES_OFFSET, k as u8, count))
 }
 
 // Whether sector 1 is a text sector.
@@ -183,33 +164,23 @@ pub(crate) fn has_manufacturer(table: &[u8]) -> bool
     has_signature(table, MANUFACTURER_OFFSET, *b"SACD_Man")
 }
 
+// The places of a disc's texts in its text sector.
+#[tactic(auto, using(area::specs::TabulateLaws::tabulated), unfolding(crate::specs::Master::sector_texts))]
+fn sector_texts(sector: &[u8]) -> [TextPlace; DISC_TEXTS]
+    ensures { result ≡ sector_texts sector.now }
+{
+    std::array::from_fn(|k| text_place_at(sector, DISC_TEXTS_OFFSET + 2 * k))
+}
+
 // The places of a disc's texts, in sector 1.
-#[tactic(auto, using(crate::proofs::Spelled::tabulate_spelled), unfolding(crate::specs::Master::disc_texts_at, crate::specs::Master::text_sector))]
+#[tactic(auto, unfolding(crate::specs::Master::disc_texts_at, crate::specs::Master::text_sector))]
 fn disc_texts_at(table: &[u8]) -> [TextPlace; DISC_TEXTS]
     ensures { result ≡ disc_texts_at table.now }
 {
     if !has_text(table) {
         return [NO_TEXT; DISC_TEXTS];
     }
-    let sector = part_of(table, SECTOR_SIZE, SECTOR_SIZE);
-    [
-        text_place_at(sector, DISC_TEXTS_OFFSET),
-        text_place_at(sector, DISC_TEXTS_OFFSET + 2),
-        text_place_at(sector, DISC_TEXTS_OFFSET + 4),
-        text_place_at(sector, DISC_TEXTS_OFFSET + 6),
-        text_place_at(sector, DISC_TEXTS_OFFSET + 8),
-        text_place_at(sector, DISC_TEXTS_OFFSET + 10),
-        text_place_at(sector, DISC_TEXTS_OFFSET + 12),
-        text_place_at(sector, DISC_TEXTS_OFFSET + 14),
-        text_place_at(sector, DISC_TEXTS_OFFSET + 16),
-        text_place_at(sector, DISC_TEXTS_OFFSET + 18),
-        text_place_at(sector, DISC_TEXTS_OFFSET + 20),
-        text_place_at(sector, DISC_TEXTS_OFFSET + 22),
-        text_place_at(sector, DISC_TEXTS_OFFSET + 24),
-        text_place_at(sector, DISC_TEXTS_OFFSET + 26),
-        text_place_at(sector, DISC_TEXTS_OFFSET + 28),
-        text_place_at(sector, DISC_TEXTS_OFFSET + 30),
-    ]
+    sector_texts(part_of(table, SECTOR_SIZE, SECTOR_SIZE))
 }
 
 // A flag: 1 if there is a manufacturer's sector.
@@ -217,7 +188,7 @@ fn disc_texts_at(table: &[u8]) -> [TextPlace; DISC_TEXTS]
 fn manufacturer_flag(table: &[u8]) -> u8
     ensures { result ≡ manufacturer_flag table.now }
 {
-    if has_manufacturer(table) { 1 } else { 0 }
+    has_manufacturer(table) as u8
 }
 
 // The master record of a master table.
@@ -254,32 +225,17 @@ pub(crate) fn master_of(table: &[u8]) -> MasterToc
     }
 }
 
-// The pointers of a slot that is not used.
-#[tactic(auto, unfolding(crate::specs::Master::no_pointer))]
-pub(crate) fn no_pointer() -> AreaPointer
-    ensures { result ≡ no_pointer }
-{
-    AreaPointer {
-        toc1_lsn: Lsn(0),
-        toc2_lsn: Lsn(0),
-        toc_sectors: 0,
-    }
-}
-
 // The zero record, where there is no master record.
-#[tactic(auto, unfolding(crate::specs::Master::no_master))]
+#[tactic(auto, unfolding(crate::specs::Master::no_master, crate::specs::Master::no_pointer))]
 pub(crate) fn no_master() -> MasterToc
     ensures { result ≡ no_master }
 {
+    // By its fields: of a default with so many no proof is found.
     let none = FixedText {
         bytes: [0u8; FIELD_SIZE],
         len: 0,
     };
-    let genres = [Genre {
-        category: 0,
-        index: 0,
-    }; GENRES];
-    let pointer = no_pointer();
+    let genres = [Genre::default(); GENRES];
     MasterToc {
         version: Version { major: 0, minor: 0 },
         album_set_size: 0,
@@ -287,17 +243,13 @@ pub(crate) fn no_master() -> MasterToc
         album_catalog_number: none,
         album_catalog_number_stored: none,
         album_genres: genres,
-        two_channel: pointer,
-        multichannel: pointer,
+        two_channel: AreaPointer::default(),
+        multichannel: AreaPointer::default(),
         disc_flags: 0,
         disc_catalog_number: none,
         disc_catalog_number_stored: none,
         disc_genres: genres,
-        date: Date {
-            year: 0,
-            month: 0,
-            day: 0,
-        },
+        date: Date::default(),
         text_channel_count: 0,
         locale_count: 0,
         locales: [no_locale(); MAX_DISC_LOCALES],

@@ -1,7 +1,23 @@
-// The numbers by which disc reading alone is refused; 0 where it is not.
+// The refusals of disc reading.
+ghost use Rattle.std.specs.Prelude.{◌≡◌};
+ghost use Rattle.disc.specs.Refusal.{number_of};
 
-pub(crate) const MASTER_TOC_TRUNCATED: u8 = 3;
+// What a disc reading is refused by.
+#[derive(Clone, Copy, Debug, PartialEq, Eq)]
+pub enum DiscRefusal {
+    ForeignFormat = 1,
+    ShortBuffer = 2,
+    MasterTocTruncated = 3,
+    NotScarletBook = 4,
+    VersionUnsupported = 5,
+    NoAudioAreas = 6,
+}
 
-pub(crate) const NOT_SCARLET_BOOK: u8 = 4;
+impl From<DiscRefusal> for u8 {
+    ghost from_gives = { λ r n. n ≡ number_of r };
 
-pub(crate) const VERSION_UNSUPPORTED: u8 = 5;
+    #[tactic(auto, unfolding(crate::specs::Refusal::number_of))]
+    fn from(refusal: DiscRefusal) -> u8 {
+        refusal as u8
+    }
+}

@@ -35,7 +35,7 @@ const MAX_COPY_WARNINGS: usize = 1;
 
 pub const WARNING_WORDS: usize = MAX_DISC_WARNINGS + 2 * (MAX_COPY_WARNINGS + TABLE_WORDS);
 
-// The slots' numbers.
+// The slots' numbers: numbers here too, since the records of C that are lent back hold any.
 pub const TWO_CHANNEL_SLOT: u8 = 1;
 
 pub const MULTICHANNEL_SLOT: u8 = 2;

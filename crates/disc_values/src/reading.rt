@@ -5,6 +5,7 @@ ghost use Rattle.area.specs.Track.{no_track};
 ghost use Rattle.disc.specs.Disc.{read_disc};
 ghost use Rattle.disc.specs.Slot.{track_records};
 ghost use Rattle.disc.specs.TextDecode.{track_text_at};
+ghost use Rattle.text.specs.Decode.{answer_by};
 
 use area::area::Area;
 use area::track::{Track, no_track};
@@ -12,7 +13,7 @@ use disc::answer::DiscAnswer;
 use disc::decode::decode_disc_track_text;
 use disc::disc::read_disc;
 use disc::regions::TRACK_RECORDS;
-use text::decode::DecodeAnswer;
+use text::decode::DecodeRefusal;
 
 // What a reading gives: the answer, and the list of tracks.
 #[derive(Clone, Copy)]
@@ -58,8 +59,8 @@ pub fn decode_track_text_by_value(
     item: u32,
     mapping: &[u32],
     page: &mut [u8],
-) -> DecodeAnswer
-    ensures { (result ≡ text_answer (track_text_at work.now area tracks number item) mapping.now (length page.old))
+) -> Result<usize, DecodeRefusal>
+    ensures { (answer_by result ≡ text_answer (track_text_at work.now area tracks number item) mapping.now (length page.old))
         × (page.new ≡ text_page (track_text_at work.now area tracks number item) mapping.now page.old) }
 {
     decode_disc_track_text(work, area, &tracks, number, item, mapping, page)

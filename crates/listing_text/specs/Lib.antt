@@ -1,6 +1,7 @@
 pub mod Decimal
 pub mod Line
 pub mod Listing
+pub mod Page
 pub mod DecimalLaws
 pub mod LineLaws
 pub mod ListingLaws

@@ -1,13 +1,15 @@
 -- The listing of a lone table (01, "Header, fingerprint, listing"). Assumes nothing.
 use Rattle.std.specs.Prelude.{ℕ, ◌/◌, ◌%◌, cond, ltb, length, get_or, take}
-use mathlib.Core.List.{List, [], ◌∷◌, ◌++◌, flat_map}
+use mathlib.Core.List.{List, [], ◌∷◌, ◌++◌, map, flat_map}
 use Rattle.area.specs.Limits.{max_tracks}
 use Rattle.area.specs.Refusal.{no_audio_areas, odd_table}
-use Rattle.area.specs.Table.{skips, yields}
-use Rattle.area.specs.Lone.{Lone, refused, reads, lone_of, table_words}
+use Rattle.area.specs.Table.{skips, yields, head_warnings, tracks_in, warnings_in}
+use Rattle.area.specs.Lone.{Lone, refused, reads, lone_of, lone_slot, table_words}
 use Rattle.area.specs.declared.area.Area.{Area}
 use Rattle.area.specs.declared.locale.Locale.{Locale}
+use Rattle.area.specs.declared.table.TableHead.{TableHead}
 use Rattle.area.specs.declared.track.Track.{Track}
+use Rattle.area.specs.Warning.{word_of}
 use Rattle.area.specs.declared.warning.Warning.{Warning}
 use Rattle.listing_text.specs.Line.{line_of, word_line}
 
@@ -72,3 +74,8 @@ listing_of table = cond (ltb max_listed (length table)) (refused_line odd_table)
 -- The warning that a word stands for: "A warning word is code times 65,536 + slot times 256 + track".
 unfoldable pub warning_of : ℕ → Warning
 warning_of word = record { code = word / 65536; slot = word / 256 % 256; track = word % 256 }
+
+-- the sections of a lone table's area by its head, each warning told by its word
+unfoldable pub sections_by : List ℕ → TableHead → List ℕ
+sections_by table head =
+    sections_of head.area (tracks_in table head) (map warning_of (map word_of (head_warnings lone_slot head ++ warnings_in table head)))

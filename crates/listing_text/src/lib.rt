@@ -2,7 +2,6 @@
 #![tactic(auto)]
 
 mod entries;
-mod line;
 pub mod listing;
-mod put;
+mod page;
 mod section;

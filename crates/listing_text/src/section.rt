@@ -1,67 +1,46 @@
-// The sections of a listing, written into a lent page from a place on: what fits. Each answers the place behind what it wrote.
-ghost use Rattle.std.specs.Prelude.{◌≡◌, map, min, take};
+// The sections of a listing.
+ghost use Rattle.std.specs.Prelude.{◌≡◌, map};
 ghost use Rattle.std.proofs.lemmas.List.Edits.{sets};
 ghost use Rattle.area.specs.Lent.{counted};
-ghost use Rattle.area.specs.Locale.{max_locales};
 ghost use Rattle.area.specs.Table.{tracks_in, warnings_in};
 ghost use Rattle.area.specs.Warning.{word_of};
-ghost use Rattle.listing_text.specs.Listing.{locales_word, tracks_word, warnings_word, locale_line, track_line, warning_line, section, warning_of};
+ghost use Rattle.listing_text.specs.Listing.{tracks_word, track_line, section};
+ghost use Rattle.listing_text.specs.Page.{appended};
 
-use crate::entries::{Written, put_locales, put_tracks, put_warnings};
-use crate::line::put_word_line;
-use area::locale::{Locale, MAX_LOCALES};
-use area::table::{TableHead, track_count};
+use crate::entries::Entry;
+use crate::page::Page;
+use area::table::{TableHead, next_track, track_count};
 
-// How many of ten locales a count says.
-fn locale_count(count: usize) -> usize
-    ensures { result ≡ min count max_locales }
+// Writes the line of a word and a count, and the entries' lines.
+#[tactic(auto, using(crate::proofs::EntryLines::lines, crate::proofs::EntryLines::all_lines))]
+pub(crate) fn put_section<E: Entry>(page: &mut Page, word: &[u8], entries: &[E])
+    ensures { page.new ≡ appended page.old (section word.now E.line entries.now) }
 {
-    if count < MAX_LOCALES {
-        count
-    } else {
-        MAX_LOCALES
+    page.put_word_line(word, entries.len());
+    for entry in entries {
+        entry.put(page);
     }
 }
 
-// Writes the section of the first locales of ten, as many as a count says.
-pub(crate) fn put_locale_section(
-    page: &mut [u8],
-    at: usize,
-    locales: [Locale; MAX_LOCALES],
-    count: usize,
-) -> usize
-    ensures written { page.new ≡ sets page.old at (section locales_word locale_line (take count locales)) }
-    ensures counted { result ≡ counted page.old at (section locales_word locale_line (take count locales)) }
-{
-    let n = locale_count(count);
-    let end = put_word_line(page, at, b"locales", n);
-    put_locales(page, end, locales, n)
-}
-
-// Writes the section of a table's tracks by its head; their warnings are written as words at a count.
-#[tactic(auto, using(crate::proofs::Writing::joins, crate::proofs::TrackTurns::length_tracks), unfolding(crate::specs::Listing::section))]
+// Writes the section of a table's tracks by its head, and their warnings as words at a count; the count behind them.
 pub(crate) fn put_track_section(
+    page: &mut Page,
     table: &[u8],
     head: TableHead,
-    page: &mut [u8],
-    at: usize,
     words: &mut [u32],
     count: usize,
-) -> Written
-    ensures written { page.new ≡ sets page.old at (section tracks_word track_line (tracks_in table.now head)) }
-    ensures placed { result.at ≡ counted page.old at (section tracks_word track_line (tracks_in table.now head)) }
+) -> usize
+    ensures written { page.new ≡ appended page.old (section tracks_word track_line (tracks_in table.now head)) }
     ensures warned { words.new ≡ sets words.old count (map word_of (warnings_in table.now head)) }
-    ensures counted { result.count ≡ counted words.old count (warnings_in table.now head) }
+    ensures counted { result ≡ counted words.old count (warnings_in table.now head) }
 {
-    let end = put_word_line(page, at, b"tracks", track_count(head));
-    put_tracks(table, head, page, end, words, count)
-}
-
-// Writes the section of the warnings that words stand for.
-pub(crate) fn put_warning_section(page: &mut [u8], at: usize, words: &[u32]) -> usize
-    ensures written { page.new ≡ sets page.old at (section warnings_word warning_line (map warning_of words.now)) }
-    ensures counted { result ≡ counted page.old at (section warnings_word warning_line (map warning_of words.now)) }
-{
-    let end = put_word_line(page, at, b"warnings", words.len());
-    put_warnings(page, end, words)
+    let tracks = track_count(head);
+    page.put_word_line(b"tracks", tracks);
+    let mut warned = count;
+    for i in 0..tracks {
+        let next = next_track(table, head, i, words, warned);
+        warned = next.count;
+        next.track.put(page);
+    }
+    warned
 }

@@ -1,7 +1,7 @@
 // What C and Rust link: the functions of the layers below, under names that begin `scarletbook_`. Each hands an answer on.
 #![tactic(auto)]
 
-ghost use Rattle.std.specs.Prelude.{◌≡◌, ◌↔◌, List, [], ◌∷◌, ℕ, ◌*◌, ◌%◌, ◌^◌, length};
+ghost use Rattle.std.specs.Prelude.{◌≡◌, ◌↔◌, List, [], ◌∷◌, ℕ, ◌*◌, ◌%◌, ◌^◌, length, OnOk, IfErr};
 ghost use Rattle.area.specs.Cap.{cap_of};
 ghost use Rattle.area.specs.Items.{draw_at};
 ghost use Rattle.area.specs.Limits.{table_bytes};
@@ -26,7 +26,7 @@ ghost use Rattle.text.specs.Decode.{decode_of, decode_into};
 ghost use Rattle.text.specs.Fixed.{fixed_bytes_of, fixed_text_of};
 ghost use Rattle.text.specs.Language.{language_of};
 ghost use Rattle.text.specs.String.{string_at, end_of};
-ghost use Rattle.scarletbook.specs.Answers.{flag_of, cap_answer, draw_answer};
+ghost use Rattle.scarletbook.specs.Answers.{cap_answer, draw_answer};
 
 use area::area::Area;
 use area::cap::Capped;
@@ -42,7 +42,7 @@ use sectors::fnv::FingerprintAnswer;
 use sectors::header::AuditAnswer;
 use sectors::mend::Mended;
 use sectors::run::Comparison;
-use sectors::sector::Lsn;
+use sectors::sector::{Image, Lsn};
 use text::decode::DecodeAnswer;
 use text::fixed::FixedText;
 use text::language::LanguageCode;
@@ -88,6 +88,7 @@ pub extern "C" fn scarletbook_contains(format: u32, bytes: usize, lsn: Lsn, coun
 }
 
 // Copies the data bytes of a run of sectors into a buffer, from a place on. A refusal changes nothing.
+#[tactic(auto, using(sectors::proofs::RefusalLaws::number_is))]
 #[unsafe(no_mangle)]
 pub extern "C" fn scarletbook_read_sectors(
     format: u32,
@@ -100,7 +101,11 @@ pub extern "C" fn scarletbook_read_sectors(
     ensures refusal { result ≡ read_refusal format (length image.now) lsn.0 count at (length buf.old) }
     ensures filled { buf.new ≡ read_into format image.now lsn.0 count at buf.old }
 {
-    sectors::run::read_sectors(format, image, lsn, count, buf, at)
+    let image = Image {
+        format,
+        bytes: image,
+    };
+    refusal_number(sectors::run::read_sectors(image, lsn, count, buf, at))
 }
 
 // Compares the data bytes of a run of sectors with as many lent bytes.
@@ -114,7 +119,11 @@ pub extern "C" fn scarletbook_compare_sectors(
 ) -> Comparison
     ensures { result ≡ comparison_of format image.now lsn.0 count bytes.now }
 {
-    sectors::run::compare_sectors(format, image, lsn, count, bytes)
+    let image = Image {
+        format,
+        bytes: image,
+    };
+    sectors::run::compare_sectors(image, lsn, count, bytes).into()
 }
 
 // The low 64 bits of a product.
@@ -138,7 +147,11 @@ pub extern "C" fn scarletbook_digest(bytes: &[u8]) -> u64
 pub extern "C" fn scarletbook_fingerprint(format: u32, image: &[u8], lsn: Lsn) -> FingerprintAnswer
     ensures { result ≡ fingerprint_of format image.now lsn.0 }
 {
-    sectors::fnv::fingerprint(format, image, lsn)
+    let image = Image {
+        format,
+        bytes: image,
+    };
+    sectors::fnv::fingerprint(image, lsn).into()
 }
 
 // Audits the header of a sector, in the numbers of the answer.
@@ -149,8 +162,11 @@ pub extern "C" fn scarletbook_audit(format: u32, image: &[u8], lsn: Lsn) -> Audi
     ensures blank { (result.verdict ≡ blank_verdict) ↔ HeaderIn Blank format image.now lsn.0 }
     ensures unsound { (result.verdict ≡ unsound_verdict) ↔ HeaderIn Unsound format image.now lsn.0 }
 {
-    let answer = sectors::header::audit(format, image, lsn);
-    sectors::header::audit_answer(answer)
+    let image = Image {
+        format,
+        bytes: image,
+    };
+    sectors::header::audit(image, lsn).into()
 }
 
 // Mends the header of a sector: the multiple of the polynomial that differs from it in at most one place. The image is not written.
@@ -162,27 +178,44 @@ pub extern "C" fn scarletbook_mend(format: u32, image: &[u8], lsn: Lsn) -> Mende
     ensures beyond { (result.refusal ≡ beyond_mending) ↔ HeaderIn BeyondMending format image.now lsn.0 }
     ensures comes_back { (g : List ℕ) → HeaderIn (OneByteChanged g) format image.now lsn.0 → result ≡ mended_to g }
 {
-    sectors::mend::mend(format, image, lsn)
+    let image = Image {
+        format,
+        bytes: image,
+    };
+    sectors::mend::mend(image, lsn).into()
+}
+
+// The number of an answer: its refusal's, 0 for none.
+fn refusal_number<E: Into<u8>>(answer: Result<(), E>) -> u8
+    ensures none { OnOk answer (result ≡ 0) }
+    ensures refused { IfErr answer (λ refusal. E.converts refusal result) }
+{
+    match answer {
+        Ok(()) => 0,
+        Err(refusal) => refusal.into(),
+    }
 }
 
 // Writes all heads of a format 2 image, then all data, then all tails, then the rest as it came. A refusal changes nothing.
+#[tactic(auto, using(tape::proofs::StoreLaws::number_is, tape::proofs::StoreLaws::none_refused))]
 #[unsafe(no_mangle)]
 pub extern "C" fn scarletbook_gather_sectors(image: &[u8], out: &mut [u8]) -> u8
     ensures refusal { result ≡ lengths_refusal (length image.now) (length out.old) }
     ensures written { out.new ≡ gather_into image.now out.old }
     ensures restored { result ≡ 0 → Restores scatter_into image.now out.new }
 {
-    tape::store::gather_sectors(image, out)
+    refusal_number(tape::store::gather_sectors(image, out))
 }
 
 // The way back: writes the image whose gathered bytes these are. A refusal changes nothing.
+#[tactic(auto, using(tape::proofs::StoreLaws::number_is, tape::proofs::StoreLaws::none_refused))]
 #[unsafe(no_mangle)]
 pub extern "C" fn scarletbook_scatter_sectors(bytes: &[u8], out: &mut [u8]) -> u8
     ensures refusal { result ≡ lengths_refusal (length bytes.now) (length out.old) }
     ensures written { out.new ≡ scatter_into bytes.now out.old }
     ensures restored { result ≡ 0 → Restores gather_into bytes.now out.new }
 {
-    tape::store::scatter_sectors(bytes, out)
+    refusal_number(tape::store::scatter_sectors(bytes, out))
 }
 
 // How many bytes the string at a place has; they stand there in the table.
@@ -199,7 +232,7 @@ pub extern "C" fn scarletbook_string_length(table: &[u8], place: usize) -> usize
 pub extern "C" fn scarletbook_string_end(table: &[u8], place: usize) -> u8
     ensures { result ≡ end_of table.now place }
 {
-    text::string::string_end(table, place)
+    text::string::string_end(table, place).into()
 }
 
 // The set of a code: 3 to 6, or 0 for Latin-1.
@@ -207,7 +240,7 @@ pub extern "C" fn scarletbook_string_end(table: &[u8], place: usize) -> u8
 pub extern "C" fn scarletbook_charset(code: u8) -> u8
     ensures { result ≡ charset_of code }
 {
-    text::charset::charset(code)
+    text::charset::charset(code).into()
 }
 
 // Decodes a string's bytes, of the set that a code names, to the start of a page. A refusal changes nothing.
@@ -221,7 +254,7 @@ pub extern "C" fn scarletbook_decode(
     ensures answer { result ≡ decode_of bytes.now code mapping.now (length page.old) }
     ensures filled { page.new ≡ decode_into bytes.now code mapping.now page.old }
 {
-    text::decode::decode(bytes, code, mapping, page)
+    text::decode::decode(bytes, code, mapping, page).into()
 }
 
 // The text of a field as it is stored; of a longer field than 16 bytes the first 16 count.
@@ -269,37 +302,41 @@ pub struct DrawAnswer {
     pub left: usize,
 }
 
-#[tactic(auto, unfolding(crate::specs::Answers::flag_of))]
-fn flag(test: bool) -> u8
-    ensures { result ≡ flag_of test }
-{
-    if test { 1 } else { 0 }
-}
+impl From<Capped> for CapAnswer {
+    ghost from_gives = { λ c a. a ≡ cap_answer c };
 
-#[tactic(auto, unfolding(crate::specs::Answers::cap_answer))]
-fn cap_answer(capped: Capped) -> CapAnswer
-    ensures { result ≡ cap_answer capped }
-{
-    let start_frame = capped.start_frame;
-    let duration_frames = capped.duration_frames;
-    CapAnswer {
-        start_frame,
-        duration_frames,
-        past_playtime: flag(capped.past_playtime),
+    #[tactic(auto, unfolding(crate::specs::Answers::cap_answer, crate::specs::Answers::flag_of))]
+    fn from(capped: Capped) -> CapAnswer {
+        CapAnswer {
+            start_frame: capped.start_frame,
+            duration_frames: capped.duration_frames,
+            past_playtime: capped.past_playtime as u8,
+        }
     }
 }
 
+// What a draw from a place on, of so many items that are left, answers; where none is drawn, the cursor stays.
 #[tactic(auto, unfolding(crate::specs::Answers::draw_answer))]
-fn draw_answer(drawn: Drawn) -> DrawAnswer
-    ensures { result ≡ draw_answer drawn }
+fn draw_answer(next: usize, left: usize, drawn: Option<Drawn>) -> DrawAnswer
+    ensures { result ≡ draw_answer next left drawn }
 {
-    DrawAnswer {
-        found: flag(drawn.found),
-        kind: drawn.kind,
-        place: drawn.place,
-        len: drawn.len,
-        next: drawn.next,
-        left: drawn.left,
+    match drawn {
+        Some(drawn) => DrawAnswer {
+            found: 1,
+            kind: drawn.kind,
+            place: drawn.place,
+            len: drawn.len,
+            next: drawn.next,
+            left: drawn.left,
+        },
+        None => DrawAnswer {
+            found: 0,
+            kind: 0,
+            place: 0,
+            len: 0,
+            next,
+            left,
+        },
     }
 }
 
@@ -316,15 +353,15 @@ pub extern "C" fn scarletbook_frame_number(time: Timecode) -> Frame
 pub extern "C" fn scarletbook_cap(start: Frame, duration: Frame, playtime: Frame) -> CapAnswer
     ensures { result ≡ cap_answer (cap_of start duration playtime) }
 {
-    cap_answer(area::cap::cap(start, duration, playtime))
+    area::cap::cap(start, duration, playtime).into()
 }
 
 // The next item of a track's text from a place on, of so many that are left.
 #[unsafe(no_mangle)]
 pub extern "C" fn scarletbook_draw_at(table: &[u8], next: usize, left: usize) -> DrawAnswer
-    ensures { result ≡ draw_answer (draw_at table.now next left) }
+    ensures { result ≡ draw_answer next left (draw_at table.now next left) }
 {
-    draw_answer(area::items::draw_at(table, next, left))
+    draw_answer(next, left, area::items::draw_at(table, next, left))
 }
 
 // Reads the head of a table of so many sectors, at the start of what is lent.
@@ -359,7 +396,7 @@ pub extern "C" fn scarletbook_read_table(
 pub extern "C" fn scarletbook_detect_format(image: &[u8]) -> DetectAnswer
     ensures { result ≡ detected image.now }
 {
-    disc::detect::detect_format(image)
+    disc::detect::detect_format(image).into()
 }
 
 // Reads a disc from one lent image: its master record and the records of its areas, its tables into at least 544,768 work bytes, its
@@ -392,7 +429,7 @@ pub extern "C" fn scarletbook_decode_area_text(
     ensures answer { result ≡ text_answer (area_text_in table.now area item) mapping.now (length page.old) }
     ensures filled { page.new ≡ text_page (area_text_in table.now area item) mapping.now page.old }
 {
-    area::decode::decode_area_text(table, area, item, mapping, page)
+    area::decode::decode_area_text(table, area, item, mapping, page).into()
 }
 
 // Decodes a text of a track, by its number and item index, to the start of a page. A refusal changes nothing.
@@ -409,7 +446,7 @@ pub extern "C" fn scarletbook_decode_track_text(
     ensures { (result ≡ text_answer (track_text_by table.now area tracks.now number item) mapping.now (length page.old))
         × (page.new ≡ text_page (track_text_by table.now area tracks.now number item) mapping.now page.old) }
 {
-    area::decode::decode_track_text(table, area, tracks, number, item, mapping, page)
+    area::decode::decode_track_text(table, area, tracks, number, item, mapping, page).into()
 }
 
 // Decodes a text of the disc, by its item index, to the start of a page.
@@ -424,7 +461,7 @@ pub extern "C" fn scarletbook_decode_disc_text(
     ensures answer { result ≡ text_answer (disc_text_in work.now master item) mapping.now (length page.old) }
     ensures filled { page.new ≡ text_page (disc_text_in work.now master item) mapping.now page.old }
 {
-    disc::decode::decode_disc_text(work, master, item, mapping, page)
+    disc::decode::decode_disc_text(work, master, item, mapping, page).into()
 }
 
 // Decodes a text of an area after a disc reading.
@@ -439,7 +476,7 @@ pub extern "C" fn scarletbook_decode_disc_area_text(
     ensures answer { result ≡ text_answer (area_text_on work.now area item) mapping.now (length page.old) }
     ensures filled { page.new ≡ text_page (area_text_on work.now area item) mapping.now page.old }
 {
-    disc::decode::decode_disc_area_text(work, area, item, mapping, page)
+    disc::decode::decode_disc_area_text(work, area, item, mapping, page).into()
 }
 
 // Decodes a text of a track after a disc reading.
@@ -456,5 +493,5 @@ pub extern "C" fn scarletbook_decode_disc_track_text(
     ensures { (result ≡ text_answer (track_text_at work.now area tracks.now number item) mapping.now (length page.old))
         × (page.new ≡ text_page (track_text_at work.now area tracks.now number item) mapping.now page.old) }
 {
-    disc::decode::decode_disc_track_text(work, area, tracks, number, item, mapping, page)
+    disc::decode::decode_disc_track_text(work, area, tracks, number, item, mapping, page).into()
 }

@@ -1,10 +1,15 @@
 -- The product of a byte with α: it is a byte, that of a sum is the sum of the products, and only 0 is its own product. What is said of
 -- one byte is tested at all 256; the sum follows from a form of the product, so tested, that is made of sums. Assumes nothing.
-use Rattle.std.specs.Prelude.{◌≡◌, ℕ, ◌*◌, ◌/◌, ◌%◌, ◌^◌, ◌<◌, Bool, cond, ◌==◌, refl}
-use Rattle.std.proofs.Common.{sym, ap, ◌∙◌, arith, eq-eqb}
+use Rattle.std.specs.Prelude.{◌≡◌, ℕ, ◌-◌, ◌*◌, ◌/◌, ◌%◌, ◌^◌, ◌<◌, ◌≤◌, Bool, cond, ◌==◌, bit_xor, refl}
+use Rattle.std.proofs.Common.{sym, ap, ◌∙◌, arith, le-ltb, eq-eqb}
 use Rattle.sectors.specs.Field.{◌⊕◌, times_alpha}
 use Rattle.sectors.specs.TableLaws.{values, agree}
 use Rattle.sectors.proofs.XorLaws.{sums, sum_lt, sum_up, sum_down, sum_low}
+
+-- as the program comes to it: the double of a byte whose top bit is set is x^8 more than what a byte keeps of it
+pub doubled_high : (x : ℕ) → 128 ≤ x → x < 256 → bit_xor (x * 2 % 256) 0x1d ≡ times_alpha x
+unfolding times_alpha ◌⊕◌
+doubled_high x high byte = let less : x * 2 % 256 ≡ x * 2 - 256 = omega arith in rw less (simp (le-ltb x 128 high))
 
 pub alpha_zero : times_alpha 0 ≡ 0
 unfolding times_alpha

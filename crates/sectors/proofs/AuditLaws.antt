@@ -1,6 +1,6 @@
 -- The audit's answers tell each other apart, and each of the three verdicts means what it says: of any image of bytes, by the tests that
 -- decide sound and blank. What the checks before it give is said for any answer, that of mending too. Assumes nothing.
-use Rattle.std.specs.Prelude.{◌≡◌, ℕ, ◌*◌, ◌<◌, Bool, true, false, cond, ◌≢◌, ◌↔◌, List, length, ◌==◌, slice_index, refl}
+use Rattle.std.specs.Prelude.{◌≡◌, ℕ, Result, Ok, Err, ◌*◌, ◌<◌, Bool, true, false, cond, ◌≢◌, ◌↔◌, List, length, ◌==◌, slice_index, refl}
 use Rattle.std.proofs.Math.Path.{sym}
 use Rattle.std.proofs.Common.{ap, ◌∙◌, arith}
 use borrow.Author.Tests.{eqb-true, ne_eqb}
@@ -8,35 +8,50 @@ use Rattle.sectors.specs.CheckLaws.{comes_here, comes_later, not_either}
 use Rattle.sectors.specs.FillLaws.{part_length, part_all_hold}
 use Rattle.sectors.specs.Format.{foreign, layout_of, stored_size}
 use Rattle.sectors.specs.Refusal.{foreign_format, no_such_entry, no_header}
+use Rattle.sectors.proofs.RefusalLaws.{tells}
 use Rattle.sectors.specs.Sector.{readable}
 use Rattle.sectors.proofs.SectorLaws.{stored_inside}
 use Rattle.sectors.specs.Header.{SixBytes, Blank, Sound, Unsound, is_blank, is_sound}
 use Rattle.sectors.proofs.HeaderLaws.{finds_blanks, blank_not_unsound, decides}
-use Rattle.sectors.specs.Audit.{HeaderIn, sound_verdict, blank_verdict, unsound_verdict, answer_of, verdict_of, header_or, audit_of, header_format, header_size, header_at}
+use Rattle.sectors.specs.Audit.{HeaderIn, sound_verdict, blank_verdict, unsound_verdict, verdict_number, answer_of, verdict_of, header_or, audit_of, header_format, header_size, header_at}
 use Rattle.sectors.specs.declared.header.AuditAnswer.{AuditAnswer}
-use Rattle.sectors.specs.declared.header.AuditResult.{AuditResult}
-use Rattle.sectors.specs.declared.header.AuditResult.TheVariants as audit
+use Rattle.sectors.specs.declared.refusal.Refusal.{Refusal}
+use Rattle.sectors.specs.declared.header.Verdict.{Verdict}
+use Rattle.sectors.specs.declared.header.Verdict.TheVariants as verdict
 
--- the answer of which these are the numbers
-result_of : AuditAnswer → AuditResult
-result_of a =
-    cond (a.verdict == sound_verdict) audit.Sound
-    (cond (a.verdict == blank_verdict) audit.Blank
-    (cond (a.verdict == unsound_verdict) audit.Unsound
-    (cond (a.refusal == foreign_format) audit.ForeignFormat
-    (cond (a.refusal == no_header) audit.NoHeader audit.NoSuchEntry))))
+-- the verdict of which this is the number
+verdict_from : ℕ → Verdict
+verdict_from n = cond (n == sound_verdict) verdict.Sound (cond (n == blank_verdict) verdict.Blank verdict.Unsound)
 
-found_again : (r : AuditResult) → result_of (answer_of r) ≡ r
-unfolding answer_of result_of
-found_again audit.Sound = refl
-found_again audit.Blank = refl
-found_again audit.Unsound = refl
-found_again audit.ForeignFormat = refl
-found_again audit.NoHeader = refl
-found_again audit.NoSuchEntry = refl
+found_again : (v : Verdict) → verdict_from (verdict_number v) ≡ v
+unfolding verdict_number verdict_from
+found_again verdict.Sound = refl
+found_again verdict.Blank = refl
+found_again verdict.Unsound = refl
 
-pub answer_tells : (r s : AuditResult) → answer_of r ≡ answer_of s → r ≡ s
-answer_tells r s e = sym (found_again r) ∙ ap result_of e ∙ found_again s
+verdict_tells : (v w : Verdict) → verdict_number v ≡ verdict_number w → v ≡ w
+verdict_tells v w e = sym (found_again v) ∙ ap verdict_from e ∙ found_again w
+
+pub answer_tells : (r s : Result Verdict Refusal) → answer_of r ≡ answer_of s → r ≡ s
+unfolding answer_of
+answer_tells =
+    tells answer_of (λ (a : AuditAnswer). a.refusal) (λ v. refl) (λ r. refl) (λ v w e. verdict_tells v w (ap (λ (a : AuditAnswer). a.verdict) e))
+
+-- an answer is a verdict's exactly if its number is
+verdict_some : (v : Verdict) → 0 < verdict_number v
+unfolding verdict_number
+verdict_some verdict.Sound = omega arith
+verdict_some verdict.Blank = omega arith
+verdict_some verdict.Unsound = omega arith
+
+its_number : (v : Verdict) (r : Result Verdict Refusal) → r ≡ Ok v → (answer_of r).verdict ≡ verdict_number v
+unfolding answer_of
+its_number v r e = ap (λ (x : Result Verdict Refusal). (answer_of x).verdict) e
+
+told : (v : Verdict) (r : Result Verdict Refusal) → (answer_of r).verdict ≡ verdict_number v → r ≡ Ok v
+unfolding answer_of
+told v (Ok w) e = ap Ok (verdict_tells w v e)
+told v (Err s) e = absurd (omega (arith, verdict_some v, e))
 
 -- ---- the verdict on six bytes: the three exclude each other, and one of them holds
 
@@ -67,6 +82,21 @@ module _ (h : List ℕ) (six : SixBytes h) where
         (λ e. let neither = comes.0 e in record { no_multiple = λ m. neither.0 (record { its_multiple = m; not_blank = neither.1.0 }) }),
         (λ u. comes.1 ((λ s. u.no_multiple s.its_multiple), ((λ b. blank_not_unsound h b u), refl))),
       )
+
+  -- and its cases
+  module _ (v : Verdict) (number : verdict_number v ≡ verdict_of h) where
+    case_means : {P : Type 0} (w : Verdict) → (verdict_of h ≡ verdict_number w ↔ P) → v ≡ w ↔ P
+    case_means w means = ((λ e. means.0 (sym number ∙ ap verdict_number e)), (λ p. verdict_tells v w (number ∙ means.1 p)))
+
+    pub judged_means
+        : record { number : verdict_number v ≡ verdict_of h; sound : v ≡ verdict.Sound ↔ Sound h; blank : v ≡ verdict.Blank ↔ Blank h; unsound : v ≡ verdict.Unsound ↔ Unsound h }
+    unfolding verdict_number
+    judged_means = record {
+      number = number;
+      sound = case_means verdict.Sound sound_verdict_lem;
+      blank = case_means verdict.Blank blank_verdict_lem;
+      unsound = case_means verdict.Unsound unsound_verdict_lem;
+    }
 
 -- ---- the checks, for any answer
 
@@ -156,21 +186,18 @@ module _ (format : ℕ) (image : List ℕ) (lsn : ℕ) where
     }
 
     -- and of the cases
-    module _ (r : AuditResult) (answer : answer_of r ≡ audit_of format image lsn) where
-      number : {v : ℕ} → (audit_of format image lsn).verdict ≡ v → (answer_of r).verdict ≡ v
-      number e = ap (λ (a : AuditAnswer). a.verdict) answer ∙ e
-
-      case_means : {P : List ℕ → Type 0} (c : AuditResult) → ((answer_of r).verdict ≡ (answer_of c).verdict → r ≡ c)
-          → ((audit_of format image lsn).verdict ≡ (answer_of c).verdict ↔ HeaderIn P format image lsn) → r ≡ c ↔ HeaderIn P format image lsn
-      case_means c tells means = (
-        (λ e. means.0 (sym (number refl) ∙ ap (λ (x : AuditResult). (answer_of x).verdict) e)),
-        (λ p. tells (number (means.1 p))),
+    module _ (r : Result Verdict Refusal) (answer : answer_of r ≡ audit_of format image lsn) where
+      answer_means : {P : List ℕ → Type 0} (v : Verdict)
+          → ((audit_of format image lsn).verdict ≡ verdict_number v ↔ HeaderIn P format image lsn) → r ≡ Ok v ↔ HeaderIn P format image lsn
+      answer_means v means = (
+        (λ e. means.0 (sym (ap (λ (a : AuditAnswer). a.verdict) answer) ∙ its_number v r e)),
+        (λ p. told v r (ap (λ (a : AuditAnswer). a.verdict) answer ∙ means.1 p)),
       )
 
-      pub result_means : Means audit.Sound audit.Blank audit.Unsound r
-      unfolding answer_of result_of
+      pub result_means : Means (Ok verdict.Sound) (Ok verdict.Blank) (Ok verdict.Unsound) r
+      unfolding verdict_number
       result_means = record {
-        sound_iff = case_means audit.Sound (λ e. sym (found_again r) ∙ (rw e)) verdict_means.sound_iff;
-        blank_iff = case_means audit.Blank (λ e. sym (found_again r) ∙ (rw e)) verdict_means.blank_iff;
-        unsound_iff = case_means audit.Unsound (λ e. sym (found_again r) ∙ (rw e)) verdict_means.unsound_iff;
+        sound_iff = answer_means verdict.Sound verdict_means.sound_iff;
+        blank_iff = answer_means verdict.Blank verdict_means.blank_iff;
+        unsound_iff = answer_means verdict.Unsound verdict_means.unsound_iff;
       }

@@ -1,9 +1,8 @@
 -- One byte of a header changed: the value at 1 changes by what the byte does, and the value at α by that times α to the number of bytes behind it.
 -- Both are Horner's rule for a product that goes through sums. Assumes nothing.
-use Rattle.std.specs.Prelude.{◌≡◌, ℕ, zero, suc, ◌-◌, ◌<◌, List, [], ◌∷◌, length, slice_index, slice_index_or, slice_set}
+use Rattle.std.specs.Prelude.{◌≡◌, ℕ, zero, suc, ◌-◌, ◌<◌, List, [], ◌∷◌, length, slice_index, fold, slice_index_or, slice_set}
 use Rattle.std.proofs.Math.Path.{refl, ap}
 use Rattle.std.proofs.Common.{sym, ◌∙◌, zero-le, suc-le-suc, le_of_suc-le-suc, not-suc-le-zero}
-use mathlib.Core.List.{foldl}
 use Rattle.std.proofs.Math.Nat.{sub-zero, suc-sub-suc}
 use Rattle.sectors.specs.Field.{◌⊕◌, times_alpha}
 use Rattle.sectors.specs.Header.{at_one, at_alpha}
@@ -13,7 +12,7 @@ use Rattle.sectors.proofs.AlphaLaws.{linear, alpha_lt}
 
 -- a polynomial's value by Horner's rule, from v on, where f is the product with the argument
 abbrev value : (ℕ → ℕ) → ℕ → List ℕ → ℕ
-value f v h = foldl (λ v a. f v ⊕ a) v h
+value f v h = fold (λ v a. f v ⊕ a) v h
 
 module _ (f : ℕ → ℕ) (linear-f : (a b : ℕ) → a < 256 → b < 256 → f (a ⊕ b) ≡ f a ⊕ f b) (f_lt : (a : ℕ) → a < 256 → f a < 256) where
   carried : (h : List ℕ) → ((i : ℕ) → slice_index h i < 256) → (v s : ℕ) → v < 256 → s < 256

@@ -1,12 +1,9 @@
 pub mod AuditCases
-pub mod Bounds
-pub mod Fold
 pub mod Halves
 pub mod HeaderCases
 pub mod Mending
 pub mod Places
 pub mod Turns
-pub mod SourceTurns
 pub mod PoolCases
 pub mod SignatureLaws
 pub mod SectorLaws
@@ -16,8 +13,11 @@ pub mod XorLaws
 pub mod AlphaLaws
 pub mod HeaderLaws
 pub mod AuditLaws
+pub mod RefusalLaws
+pub mod FnvLaws
 pub mod PoolLaws
 pub mod LogLaws
 pub mod ChangeLaws
 pub mod DistanceLaws
 pub mod MendLaws
+pub mod ComparisonLaws

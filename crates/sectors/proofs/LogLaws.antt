@@ -10,7 +10,7 @@ use borrow.Author.Tests.{ltb-true, ltb-false}
 use Rattle.sectors.specs.Field.{times_alpha, ◌⊕◌}
 use Rattle.sectors.specs.TableLaws.{values, mapped}
 use Rattle.sectors.proofs.AlphaLaws.{alpha_zero}
-use Rattle.sectors.specs.Log.{repeated, times_power, powers_from, powers, stored, logs, log, nonzero_count, LeastExponent}
+use Rattle.sectors.specs.Log.{repeated, times_power, powers_from, powers, stored, logs, log, nonzero_count, LeastExponent, NoExponent}
 
 -- ---- the powers of α
 
@@ -104,7 +104,7 @@ module _ (a : ℕ) (a-nonzero : 0 < a) (a_byte : a < 256) where
       let b-log = log_lt b b-nonzero b_byte in
       let n = (log b + nonzero_count - log a) % nonzero_count in
       record {
-        takes = λ h. as_power n ∙ ap (λ (k : ℕ). times_power k 1) (omega (arith, a-log, b-log)) ∙ power_log b b-nonzero b_byte;
+        takes = as_power n ∙ ap (λ (k : ℕ). times_power k 1) (omega (arith, a-log, b-log)) ∙ power_log b b-nonzero b_byte;
         is_least = λ k e. omega (arith, a-log, b-log, sym (ap log e) ∙ log_times k);
       }
 
@@ -112,20 +112,15 @@ module _ (a : ℕ) (a-nonzero : 0 < a) (a_byte : a < 256) where
 module _ (a b : ℕ) where
   pub same_exponent : a ≡ b → LeastExponent a b 0
   unfolding times_power repeated
-  same_exponent e = record { takes = λ h. e; is_least = λ k f. omega arith }
+  same_exponent e = record { takes = e; is_least = λ k f. omega arith }
 
-  module _ (other : a ≢ b) where
-    pub from_zero : a ≡ 0 → LeastExponent a b nonzero_count
-    from_zero zero_a = record {
-      takes = λ h. absurd (omega arith);
-      is_least = λ k e. absurd (other (zero_a ∙ sym (power_zero k) ∙ ap (times_power k) (sym zero_a) ∙ e));
-    }
+  pub from_zero : a ≢ b → a ≡ 0 → NoExponent a b
+  from_zero other zero_a = record { none_takes = λ k e. other (zero_a ∙ sym (power_zero k) ∙ ap (times_power k) (sym zero_a) ∙ e) }
 
-    pub to_zero : a < 256 → a ≢ 0 → b ≡ 0 → LeastExponent a b nonzero_count
-    to_zero byte some zero-b = record {
-      takes = λ h. absurd (omega arith);
-      is_least = λ k e. absurd (never_zero ((log a + k) % nonzero_count) (omega arith) (sym (as_power a (omega arith) byte k) ∙ e ∙ zero-b));
-    }
+  pub to_zero : a < 256 → a ≢ 0 → b ≡ 0 → NoExponent a b
+  to_zero byte some zero-b = record {
+    none_takes = λ k e. never_zero ((log a + k) % nonzero_count) (omega arith) (sym (as_power a (omega arith) byte k) ∙ e ∙ zero-b);
+  }
 
   pub by_logs : a < 256 → b < 256 → a ≢ 0 → b ≢ 0 → {x y : ℕ} → x ≡ log a → y ≡ log b
       → LeastExponent a b ((y + nonzero_count - x) % nonzero_count)

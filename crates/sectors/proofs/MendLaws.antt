@@ -1,6 +1,6 @@
 -- What mends a header is a candidate, a candidate that is a multiple mends it, and no two do: so the search gives the header that mends, and 14 where
 -- none does. What `mend` answers means, of any image of bytes, what its contract says. Assumes nothing.
-use Rattle.std.specs.Prelude.{◌≡◌, ℕ, zero, suc, ◌+◌, ◌*◌, ◌/◌, ◌%◌, ◌<◌, ◌≤◌, Bool, true, false, cond, ◌≢◌, ◌⊎◌, ◌↔◌, List, slice_index, slice_index_or, slice_set}
+use Rattle.std.specs.Prelude.{◌≡◌, ℕ, Result, zero, suc, ◌+◌, ◌*◌, ◌/◌, ◌%◌, ◌<◌, ◌≤◌, Bool, true, false, cond, ◌≢◌, ◌⊎◌, ◌↔◌, List, slice_index, slice_index_or, slice_set}
 use Rattle.std.proofs.Math.Path.{refl, sym, ap, ap₂}
 use Rattle.std.proofs.Common.{◌∙◌, mod-lt, eq-or-lt_of_le, le_of_suc-le-suc, arith, get_or-set_other}
 use Rattle.std.proofs.Math.Logic.{inl, inr, ⊎_elim}
@@ -11,8 +11,10 @@ use Rattle.sectors.specs.Header.{SixBytes, is_multiple}
 use Rattle.sectors.proofs.HeaderLaws.{finds_multiples}
 use Rattle.sectors.specs.Audit.{HeaderIn, header_size, header_at}
 use Rattle.sectors.proofs.AuditLaws.{There, header_six, there_checked, there, in_image}
-use Rattle.sectors.specs.Mend.{Mends, mended_to, unmended, candidate, mended_in, mended_of, mend_of, Mendable, BeyondMending, OneByteChanged}
+use Rattle.sectors.specs.Mend.{Mends, mended_to, unmended, mended_by, candidate, mended_in, mended_of, mend_of, Mendable, BeyondMending, OneByteChanged}
 use Rattle.sectors.proofs.DistanceLaws.{six_set, set_equal, multiple_six, only_one}
+use Rattle.sectors.proofs.RefusalLaws.{tells}
+use Rattle.sectors.specs.declared.refusal.Refusal.{Refusal}
 use Rattle.sectors.specs.declared.mend.Mended.{Mended}
 
 -- ---- the search
@@ -84,18 +86,18 @@ module _ (h : List ℕ) (six : SixBytes h) where
   none_found beyond = ⊎_elim (λ w. absurd (beyond.none_mends (record { mended = w.0; mends = w.1.0 }))) (λ none. none.1) mended_case
 
   -- what the answer says of the header
-  mendable : (mended_of h).refusal ≡ 0 ↔ Mendable h
+  pub mendable : (mended_of h).refusal ≡ 0 ↔ Mendable h
   unfolding mended_to unmended
   mendable = ⊎_elim
       (λ w. ((λ e. record { mended = w.0; mends = w.1.0 }), (λ some. ap (λ (a : Mended). a.refusal) w.1.1)))
       (λ none. ((λ e. absurd (omega (arith, e, ap (λ (a : Mended). a.refusal) none.1))), (λ some. absurd (none.0.none_mends some))))
       mended_case
 
-  returned_mends : (mended_of h).refusal ≡ 0 → Mends h (mended_of h).header
+  pub returned_mends : (mended_of h).refusal ≡ 0 → Mends h (mended_of h).header
   unfolding mended_to
   returned_mends e = let w = mendable.0 e in rw (found w.mended w.mends) w.mends
 
-  beyond : (mended_of h).refusal ≡ beyond_mending ↔ BeyondMending h
+  pub beyond : (mended_of h).refusal ≡ beyond_mending ↔ BeyondMending h
   unfolding mended_to unmended
   beyond = ⊎_elim
       (λ w. (
@@ -106,7 +108,7 @@ module _ (h : List ℕ) (six : SixBytes h) where
       mended_case
 
 -- "A correct header with just one byte changed always comes back as it was"
-changed_back : (correct h : List ℕ) → SixBytes h → OneByteChanged correct h → mended_of h ≡ mended_to correct
+pub changed_back : (correct h : List ℕ) → SixBytes h → OneByteChanged correct h → mended_of h ≡ mended_to correct
 changed_back correct h six w =
     found h six correct
     (record {
@@ -116,6 +118,12 @@ changed_back correct h six w =
       inside = w.inside;
       equal_but = λ i other. rw w.is_changed (get_or-set_other correct w.place i w.byte 0 other);
     })
+
+-- ---- the answer as a value or a refusal
+
+pub mended_tells : (r s : Result (List ℕ) Refusal) → mended_by r ≡ mended_by s → r ≡ s
+unfolding mended_by mended_to unmended
+mended_tells = tells mended_by (λ (a : Mended). a.refusal) (λ m. refl) (λ r. refl) (λ a b e. ap (λ (a : Mended). a.header) e)
 
 -- ---- of the header in an image
 

@@ -1,18 +1,20 @@
 -- The sectors of two rips: what the tests say by which the program finds one. Assumes nothing.
-use Rattle.std.proofs.Common.{◌≡◌, ℕ, ◌+◌, ◌*◌, ◌<◌, ◌≤◌, Bool, true, false, ltb, List, [], length, sym, refl, ap, ◌∙◌, arith, le-ltb, lt-ltb}
+use Rattle.std.proofs.Common.{◌≡◌, ℕ, ◌+◌, ◌*◌, ◌<◌, ◌≤◌, Bool, true, false, cond, Option, Some, None, List, [], length, sym, refl, ap, subst, ◌∙◌, arith, is_some, Ok, Err, le-ltb, lt-ltb}
 use Rattle.sectors.specs.Fill.{part, start_at}
 use Rattle.sectors.specs.FillLaws.{start_whole}
 use Rattle.sectors.specs.Format.{stored_size, data_offset}
-use mathlib.Core.Option.{some}
+use mathlib.Core.Option as maths
 use Rattle.sectors.specs.Options.{only_if, is_there, given}
 use Rattle.sectors.specs.Sector.{sector_count, readable, sector_data}
 use Rattle.sectors.proofs.SectorLaws.{is_readable, not_readable}
 use Rattle.sectors.specs.Header.{is_sound}
 use Rattle.sectors.specs.Audit.{header_format, header_size}
-use Rattle.sectors.specs.Pool.{sound_in, data_place, pooled_at, pooled_start, pooled_count, which_rip}
-use Rattle.sectors.proofs.PoolLaws.{pool_first, pool_second, pool_lost}
-use Rattle.sectors.specs.declared.pool.PoolResult.TheVariants as pool
-use Rattle.sectors.proofs.HeaderCases.{header_there, six_is, six_long}
+use Rattle.sectors.specs.Pool.{sound_in, data_place, pooled_at, pooled_start, pooled_count, rip_of, which_rip}
+use Rattle.sectors.proofs.PoolLaws.{sound_there, pool_first, pool_second, pool_lost}
+use Rattle.sectors.specs.declared.refusal.Refusal.TheVariants as refusal
+use Rattle.sectors.specs.declared.pool.Rip.{Rip}
+use Rattle.sectors.specs.declared.pool.Rip.TheVariants as rip
+use Rattle.sectors.proofs.HeaderCases.{six_is, six_long}
 
 -- ---- a rip's sector
 
@@ -25,8 +27,8 @@ module _ (rip : List ℕ) (n : ℕ) {m : ℕ} (e : m ≡ sector_count header_for
     there : true ≡ readable header_format (length rip) n 1
     there = sym (is_readable header_format (length rip) n 1 (omega arith))
 
-    pub its_header : (readable header_format (length rip) n 1 ≡ true) × (0 + header_size ≤ stored_size header_format)
-    its_header = header_there header_format rip n refl there refl
+    pub its_sector : readable header_format (length rip) n 1 ≡ true
+    its_sector = sym there
 
     module _ {six : List ℕ} (is-part : six ≡ part (n * stored_size header_format + 0) header_size rip) where
       pub its_length : length six ≡ header_size
@@ -39,59 +41,73 @@ module _ (rip : List ℕ) (n : ℕ) {m : ℕ} (e : m ≡ sector_count header_for
 -- ---- the pool's
 
 module _ (first second : List ℕ) (n : ℕ) where
-  -- whether it is there
-  pub first_there : sound_in first n ≡ true → true ≡ is_there (pooled_at first second n)
-  unfolding is_there
-  first_there sound = sym (ap is_there (pool_first first second n sound))
+  -- what the tests say of the rip that has it
+  Tests : Option Rip → Type 0
+  Tests (Some rip.First) = sound_in first n ≡ true
+  Tests (Some rip.Second) = (sound_in first n ≡ false) × (sound_in second n ≡ true)
+  Tests None = (sound_in first n ≡ false) × (sound_in second n ≡ false)
 
-  pub second_there : sound_in first n ≡ false → {test : Bool} → test ≡ sound_in second n → test ≡ is_there (pooled_at first second n)
-  unfolding pooled_at is_there
-  second_there unsound {test} is = rw (unsound, ← is) (go test)
+  tests : (r : Option Rip) → rip_of first second n ≡ r → Tests r
+  unfolding rip_of Tests
+  tests r e = subst Tests e (go (sound_in first n) (sound_in second n) refl refl)
     where
-      go : (t : Bool) → t ≡ is_there (only_if t (some (sector_data header_format second n)))
-      go true = refl
-      go false = refl
+      go : (a b : Bool) → sound_in first n ≡ a → sound_in second n ≡ b → Tests (cond a (Some rip.First) (cond b (Some rip.Second) None))
+      go true b p q = p
+      go false true p q = (p, q)
+      go false false p q = (p, q)
 
+  -- whether one has it
+  pub has_any : is_some (rip_of first second n) ≡ is_there (pooled_at first second n)
+  unfolding rip_of pooled_at is_there
+  has_any = go (sound_in first n) (sound_in second n)
+    where
+      go : (a b : Bool) → is_some (cond a (Some rip.First) (cond b (Some rip.Second) None))
+          ≡ is_there (cond a (maths.some (sector_data header_format first n)) (only_if b (maths.some (sector_data header_format second n))))
+      go true b = refl
+      go false true = refl
+      go false false = refl
+
+  -- it has the sector, and the data there are the pool's
+  pub first_there : rip_of first second n ≡ Some rip.First → readable header_format (length first) n 1 ≡ true
+  unfolding Tests
+  first_there e = sound_there first n (tests (Some rip.First) e)
+
+  pub second_there : rip_of first second n ≡ Some rip.Second → readable header_format (length second) n 1 ≡ true
+  unfolding Tests
+  second_there e = sound_there second n (tests (Some rip.Second) e).1
+
+  pub first_data : rip_of first second n ≡ Some rip.First → sector_data header_format first n ≡ given (pooled_at first second n)
+  unfolding given Tests
+  first_data e = ap given (sym (pool_first first second n (tests (Some rip.First) e)))
+
+  pub second_data : rip_of first second n ≡ Some rip.Second → sector_data header_format second n ≡ given (pooled_at first second n)
+  unfolding given Tests
+  second_data e = let t = tests (Some rip.Second) e in ap given (sym (pool_second first second n t.0 t.1))
+
+  pub no_data : rip_of first second n ≡ None → ◌≡◌ {A = List ℕ} [] (given (pooled_at first second n))
+  unfolding given Tests
+  no_data e = let t = tests None e in ap given (sym (pool_lost first second n t.0 t.1))
+
+  -- and where they begin
   module _ (a b : ℕ × ℕ) where
-    -- what the contract says of a part
-    abbrev pub Pooled : List ℕ → ℕ × ℕ → Type 0
-    Pooled bytes start = (bytes ≡ given (pooled_at first second n)) × (start ≡ pooled_start first second n a b)
+    pub first_start : rip_of first second n ≡ Some rip.First → start_at a (n * stored_size header_format + data_offset header_format) ≡ pooled_start first second n a b
+    unfolding pooled_start data_place Tests
+    first_start e = rw (tests (Some rip.First) e)
 
-    abbrev at : ℕ
-    at = n * stored_size header_format + data_offset header_format
+    pub second_start : rip_of first second n ≡ Some rip.Second → start_at b (n * stored_size header_format + data_offset header_format) ≡ pooled_start first second n a b
+    unfolding pooled_start data_place Tests
+    second_start e = let t = tests (Some rip.Second) e in rw (t.0, t.1)
 
-    pub from_first : sound_in first n ≡ true → {bytes : List ℕ} {start : ℕ × ℕ} → bytes ≡ sector_data header_format first n → start ≡ start_at a at → Pooled bytes start
-    unfolding pooled_start data_place given
-    from_first sound is p = (is ∙ ap given (sym (pool_first first second n sound)), p ∙ rw sound)
+    pub no_start : rip_of first second n ≡ None → a ≡ pooled_start first second n a b
+    unfolding pooled_start Tests
+    no_start e = let t = tests None e in sym (start_whole a) ∙ rw (t.0, t.1)
 
-    module _ (unsound : sound_in first n ≡ false) where
-      pub from_second : sound_in second n ≡ true → {bytes : List ℕ} {start : ℕ × ℕ} → bytes ≡ sector_data header_format second n → start ≡ start_at b at → Pooled bytes start
-      unfolding pooled_start data_place given
-      from_second sound is p = (is ∙ ap given (sym (pool_second first second n unsound sound)), p ∙ rw (unsound, sound))
-
-      pub from_none : sound_in second n ≡ false → (◌≡◌ {A = List ℕ} [] (given (pooled_at first second n))) × (a ≡ pooled_start first second n a b)
-      unfolding pooled_start given
-      from_none sound = (ap given (sym (pool_lost first second n unsound sound)), sym (start_whole a) ∙ rw (unsound, sound))
-
-  -- ---- which rip has it
-
+  -- which rip has it, if the pool has so many sectors
   module _ {m : ℕ} (e : m ≡ pooled_count (length first) (length second)) where
-    pub beyond_both : m ≤ n → pool.NoSuchEntry ≡ which_rip first second n
+    pub beyond_both : m ≤ n → Err refusal.NoSuchEntry ≡ which_rip first second n
     unfolding which_rip
     beyond_both h = rw (le-ltb n (pooled_count (length first) (length second)) (omega arith))
 
-    module _ (h : n < m) where
-      inside : ltb n (pooled_count (length first) (length second)) ≡ true
-      inside = lt-ltb n (pooled_count (length first) (length second)) (omega arith)
-
-      pub is_first : sound_in first n ≡ true → pool.First ≡ which_rip first second n
-      unfolding which_rip
-      is_first s = rw (inside, s)
-
-      pub is_second : sound_in first n ≡ false → sound_in second n ≡ true → pool.Second ≡ which_rip first second n
-      unfolding which_rip
-      is_second s t = rw (inside, s, t)
-
-      pub is_lost : sound_in first n ≡ false → sound_in second n ≡ false → pool.Lost ≡ which_rip first second n
-      unfolding which_rip
-      is_lost s t = rw (inside, s, t)
+    pub within_both : n < m → Ok (rip_of first second n) ≡ which_rip first second n
+    unfolding which_rip
+    within_both h = rw (lt-ltb n (pooled_count (length first) (length second)) (omega arith))

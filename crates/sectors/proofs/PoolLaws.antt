@@ -5,7 +5,7 @@ use Rattle.std.proofs.Math.Path.{refl, ap}
 use Rattle.std.proofs.Math.Bool.{and-eq-true_iff}
 use Rattle.std.proofs.Math.Option.{none, some}
 use Rattle.sectors.specs.Options.{is_there, given}
-use Rattle.sectors.specs.OptionLaws.{some_eq, no_some}
+use Rattle.sectors.specs.OptionLaws.{some_eq, no_some, there_known, given_known}
 use Rattle.sectors.specs.Format.{sector_size}
 use Rattle.sectors.specs.Sector.{readable, sector_data, run_data}
 use Rattle.sectors.proofs.SectorLaws.{sector_length}
@@ -13,6 +13,9 @@ use Rattle.sectors.specs.Header.{is_sound}
 use Rattle.sectors.specs.Audit.{header_format, header_at}
 use Rattle.sectors.specs.Source.{Sized, run_of}
 use Rattle.sectors.proofs.SourceLaws.{image_sized, image_run, image_there}
+use Rattle.sectors.specs.declared.sector.Image.{Image}
+use Rattle.sectors.specs.declared.source.Source as lent
+use Rattle.sectors.specs.declared.source.Source.TheVariants as source
 use Rattle.sectors.specs.Pool.{sound_in, pooled_at, pooled_source, source_of}
 
 -- ---- the pool
@@ -47,17 +50,22 @@ module _ (first second : List ℕ) where
           ap length (sym (some_eq (sym (pool_second n p q) ∙ e))) ∙ sector_length header_format second n (sound_there second n q)
       go n d false false p q e = absurd (no_some (pool_lost n p q) e)
 
-pub source_sized : (pooled : Bool) (format : ℕ) (first second : List ℕ) → Sized (source_of pooled format first second)
+pub source_sized : (s : lent.Source) → Sized (source_of s)
 unfolding source_of
-source_sized true format first second = pool_sized first second
-source_sized false format first second = image_sized format first
+source_sized (source.Image image) = image_sized image.format image.bytes.now
+source_sized (source.Rips rips) = pool_sized rips.first.now rips.second.now
+
+pub source_size : (s : lent.Source) (n : ℕ) → is_there ((source_of s).at n) ≡ true → length (given ((source_of s).at n)) ≡ sector_size
+source_size s n there =
+    let x = (source_of s).at n in (source_sized s).sized n (given x) (given_known x (there_known x there))
 
 -- of one image, as what is read from
-module _ (format : ℕ) (image second : List ℕ) (lsn n : ℕ) where
-  pub single_there : is_there (run_of (source_of false format image second) lsn n) ≡ readable format (length image) lsn n
+module _ (image : Image) (lsn n : ℕ) where
+  pub single_there : is_there (run_of (source_of (source.Image image)) lsn n) ≡ readable image.format (length image.bytes.now) lsn n
   unfolding source_of
-  single_there = image_there format image lsn n
+  single_there = image_there image.format image.bytes.now lsn n
 
-  pub single_run : readable format (length image) lsn n ≡ true → given (run_of (source_of false format image second) lsn n) ≡ run_data format image lsn n
+  pub single_run : readable image.format (length image.bytes.now) lsn n ≡ true
+      → given (run_of (source_of (source.Image image)) lsn n) ≡ run_data image.format image.bytes.now lsn n
   unfolding source_of given
-  single_run e = ap given (image_run format image lsn n e)
+  single_run e = ap given (image_run image.format image.bytes.now lsn n e)

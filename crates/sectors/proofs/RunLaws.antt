@@ -1,12 +1,15 @@
--- Laws of reading and comparing runs: when nothing is refused, and what is then read or compared. Assumes nothing.
-use Rattle.std.specs.Prelude.{◌≡◌, ℕ, ◌+◌, ◌*◌, ◌≤◌, Bool, true, false, cond, List, length, take, ◌≢◌, nat_le, refl}
-use Rattle.std.proofs.Common.{arith, leb-true, le-leb, eq-eqb, ne_eqb}
-use Rattle.sectors.specs.Refusal.{foreign_format, short_buffer, no_such_entry}
+-- Laws of reading and comparing runs: when nothing is refused, what is then read or compared, and answers by their numbers. Assumes nothing.
+use Rattle.std.specs.Prelude.{◌≡◌, ℕ, ◌+◌, ◌*◌, ◌≤◌, Result, Bool, true, false, cond, List, length, take, ◌≢◌, nat_le, refl}
+use Rattle.std.proofs.Common.{ap, arith, leb-true, le-leb, eq-eqb, ne_eqb}
+use Rattle.sectors.specs.declared.refusal.Refusal.{Refusal}
+use Rattle.sectors.specs.declared.run.Comparison.{Comparison}
+use Rattle.sectors.specs.Refusal.{foreign_format, short_buffer, no_such_entry, refusal_of}
+use Rattle.sectors.proofs.RefusalLaws.{tells}
 use Rattle.sectors.specs.Format.{foreign, sector_size}
 use Rattle.sectors.specs.Sector.{readable, run_data}
 use Rattle.sectors.specs.Bytes.{same}
 use Rattle.sectors.specs.Fill.{fill}
-use Rattle.sectors.specs.Run.{read_refusal, read_into, comparison_of}
+use Rattle.sectors.specs.Run.{read_refusal, read_into, comparison_of, compared}
 
 -- ---- refusals
 
@@ -52,3 +55,21 @@ module _ (format : ℕ) (image : List ℕ) (lsn count : ℕ) where
       → comparison_of format image lsn count bytes ≡ record { refusal = read_refusal format (length image) lsn count 0 (length bytes); equal = 0 }
   unfolding comparison_of
   compares_not bytes n = rw (ne_eqb _ _ n)
+
+-- ---- answers by their numbers
+
+-- an answer without a value is known by its number
+pub read_tells : (r s : Result (Unit {0}) Refusal) → refusal_of r ≡ refusal_of s → r ≡ s
+unfolding refusal_of
+read_tells = tells refusal_of (λ n. n) (λ a. refl) (λ r. refl) (λ a b e. refl)
+
+-- and how a run compares by its two
+pub compared_tells : (r s : Result Bool Refusal) → compared r ≡ compared s → r ≡ s
+unfolding compared
+compared_tells = tells compared (λ (c : Comparison). c.refusal) (λ a. refl) (λ r. refl) (λ a b e. equal_tells a b (ap (λ (c : Comparison). c.equal) e))
+  where
+    equal_tells : (a b : Bool) → ◌≡◌ {A = ℕ} (cond a 1 0) (cond b 1 0) → a ≡ b
+    equal_tells true true e = refl
+    equal_tells true false e = cc
+    equal_tells false true e = cc
+    equal_tells false false e = refl

@@ -1,17 +1,16 @@
 -- Laws of formats and of an image's sectors: their sizes, which of them are readable, and their data bytes. Assumes nothing.
-use Rattle.std.specs.Prelude.{◌≡◌, ℕ, zero, suc, ◌+◌, ◌-◌, ◌*◌, ◌/◌, ◌<◌, ◌≤◌, Bool, true, false, ◌≢◌, ◌↔◌, List, [], ◌++◌, length, drop, slice_index}
+use Rattle.std.specs.Prelude.{◌≡◌, ℕ, zero, suc, ◌+◌, ◌-◌, ◌*◌, ◌/◌, ◌<◌, ◌≤◌, Bool, true, false, is_none, ◌≢◌, ◌↔◌, List, [], ◌++◌, length, drop, slice_index}
 use Rattle.std.proofs.Common.{add-zero, add-suc, add_assoc, div-le_self, div-mul-le_self, le-div_iff_mul-le, mul-le-mul_right, sym, ◌∙◌, ext_get_or, take_at, take-add, drop-drop, leb-true, leb-false, le-leb}
 use Rattle.std.proofs.Math.Nat.{div-zero, lt-mul-div-succ}
 use native.Mathlib.Omega.{arith}
 use Rattle.std.proofs.Math.Path.{refl, ap}
 use mathlib.Core.List.{append-nil, append_assoc}
-use Rattle.std.proofs.Math.ListN.{length-append, get_or-eq_default}
+use Rattle.std.proofs.Math.ListN.{length-append}
 use Rattle.std.proofs.Math.Seq.{drop_at}
 use Rattle.std.proofs.lemmas.Bool.{lt-leb}
 use Rattle.sectors.specs.Fill.{part}
 use Rattle.sectors.specs.FillLaws.{part_length, part_at, part_part}
-use Rattle.sectors.specs.declared.sector.Layout.{Layout}
-use Rattle.sectors.specs.Format.{foreign, layouts, layout_of, stored_size, data_offset, sector_size}
+use Rattle.sectors.specs.Format.{foreign, layout_of, stored_size, data_offset, sector_size}
 use Rattle.sectors.specs.Sector.{sector_count, readable, sector_data, data_start, run_data}
 
 -- ---- formats
@@ -26,11 +25,21 @@ foreign_when format = (
       le-leb 3 format (omega arith)),
 )
 
--- a foreign format has no stored size
+-- a foreign format has no layout
+pub foreign_none : (format : ℕ) → is_none (layout_of format) ≡ foreign format
+unfolding layout_of foreign
+foreign_none zero = refl
+foreign_none (suc zero) = refl
+foreign_none (suc (suc zero)) = refl
+foreign_none (suc (suc (suc n))) = sym (le-leb 3 (suc (suc (suc n))) (omega arith))
+
+-- and no stored size
 pub foreign_size : (format : ℕ) → foreign format ≡ true → stored_size format ≡ 0
 unfolding stored_size layout_of foreign
-foreign_size format h =
-    ap (λ (l : Layout). l.stored) (get_or-eq_default layouts (record { stored = 0; offset = 0 }) (leb-true 3 format h))
+foreign_size zero h = cc
+foreign_size (suc zero) h = cc
+foreign_size (suc (suc zero)) h = cc
+foreign_size (suc (suc (suc n))) h = refl
 
 -- `Raw2064`
 pub raw2064_size : stored_size 2 ≡ 2064

@@ -1,8 +1,10 @@
 -- Laws of signatures: what a cut table has, and a part of a table. Assumes nothing.
-use Rattle.std.specs.Prelude.{◌≡◌, ℕ, ◌+◌, ◌<◌, ◌≤◌, Bool, true, false, List, length, ◌≢◌, refl}
-use Rattle.std.proofs.Common.{arith, sym, ap, ◌∙◌, length-take, length-drop}
+use Rattle.std.specs.Prelude.{◌≡◌, ℕ, ◌+◌, ◌-◌, ◌<◌, ◌≤◌, Bool, true, false, List, length, take, drop, ◌≢◌, refl}
+use Rattle.std.specs.List.{slice_range}
+use Rattle.std.specs.Str.{bytes_eq}
+use Rattle.std.proofs.Common.{arith, sym, ap, ◌∙◌, length-take, length-drop, le_of_eq, take_all}
 use Rattle.sectors.specs.Bytes.{same}
-use Rattle.sectors.specs.BytesLaws.{same_eq, same_refl}
+use Rattle.sectors.specs.BytesLaws.{same_eq, same_refl, same_turned}
 use Rattle.sectors.specs.Fill.{part}
 use Rattle.sectors.specs.FillLaws.{part_part}
 use Rattle.sectors.specs.Signature.{signed_at}
@@ -18,6 +20,14 @@ signed_cut table at signature some short = go (same (part at (length signature) 
     go true q =
         let n = simp (length-take, length-drop) at (ap length (same_eq (part at (length signature) table) signature q)) in
         absurd (omega arith)
+
+-- one that what stands from a place on begins with
+pub signed_begun : (table : List ℕ) (at : ℕ) (signature rest : List ℕ) → rest ≡ slice_range table at (length table)
+    → bytes_eq signature (take (length signature) rest) ≡ signed_at table at signature
+unfolding signed_at same part
+signed_begun table at signature rest e =
+    let all : rest ≡ drop at table = e ∙ take_all (length table - at) (drop at table) (le_of_eq (length-drop at table)) in
+    rw all (same_turned signature (take (length signature) (drop at table)))
 
 -- a signature in a part of a table
 pub signed_part : (p n : ℕ) (table : List ℕ) (at : ℕ) (signature : List ℕ) → at + length signature ≤ n → p + n ≤ length table

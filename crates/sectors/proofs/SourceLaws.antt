@@ -7,10 +7,10 @@ use Rattle.std.proofs.Common.{arith, sym, ◌∙◌, ap, length-append, leb-true
 use Rattle.std.proofs.Math.Path.{refl}
 use Rattle.std.proofs.Math.Option.{Option, none, some}
 use Rattle.sectors.specs.Options.{only_if, Known, is_there, given}
-use Rattle.sectors.specs.OptionLaws.{some_eq, no_some, given_known}
+use Rattle.sectors.specs.OptionLaws.{some_eq, no_some, there_known, known_there, given_known}
 use Rattle.sectors.specs.Format.{stored_size, data_offset, sector_size}
 use Rattle.sectors.specs.Sector.{sector_count, readable, sector_data, run_data}
-use Rattle.sectors.proofs.SectorLaws.{readable_true, is_readable, sector_of_run, run_shorter, sector_length, sector_inside, sector_ext, count_mono}
+use Rattle.sectors.proofs.SectorLaws.{readable_true, is_readable, sector_of_run, run_shorter, sector_length, sector_missing, sector_inside, sector_ext, count_mono}
 use Rattle.sectors.specs.Source.{Source, Sized, image_source, joined, sectors_of, run_of}
 
 -- ---- any source
@@ -67,6 +67,10 @@ sectors_each s lsn (suc n) b e k h =
 -- a run that is there has each of its sectors
 pub run_each : (s : Source) (lsn n : ℕ) (b : List ℕ) → run_of s lsn n ≡ some b → (k : ℕ) → k < n → Known (s.at (lsn + k))
 run_each s lsn n b e = sectors_each s lsn n b (run_parts s lsn n b e).1
+
+pub there_each : (s : Source) (lsn n : ℕ) → is_there (run_of s lsn n) ≡ true → (k : ℕ) → k < n → is_there (s.at (lsn + k)) ≡ true
+there_each s lsn n there k h =
+    let run = there_known (run_of s lsn n) there in known_there (s.at (lsn + k)) (run_each s lsn n run.0 run.1 k h)
 
 -- a sector that is lost loses the run
 pub run_lost : (s : Source) (lsn n k : ℕ) → k < n → s.at (lsn + k) ≡ none → run_of s lsn n ≡ none
@@ -171,6 +175,23 @@ module _ (format : ℕ) (image : List ℕ) where
   pub image_not_at : (lsn : ℕ) → readable format (length image) lsn 1 ≡ false → (image_source format image).at lsn ≡ none
   unfolding image_source
   image_not_at lsn h = rw h
+
+  -- whether it is there, and the bytes that are given of it
+  pub image_has : (lsn : ℕ) → is_there ((image_source format image).at lsn) ≡ readable format (length image) lsn 1
+  unfolding is_there
+  image_has lsn = go (readable format (length image) lsn 1) refl
+    where
+      go : (t : Bool) → readable format (length image) lsn 1 ≡ t → is_there ((image_source format image).at lsn) ≡ readable format (length image) lsn 1
+      go true e = ap is_there (image_at lsn e) ∙ sym e
+      go false e = ap is_there (image_not_at lsn e) ∙ sym e
+
+  pub image_given : (lsn : ℕ) → given ((image_source format image).at lsn) ≡ sector_data format image lsn
+  unfolding given
+  image_given lsn = go (readable format (length image) lsn 1) refl
+    where
+      go : (t : Bool) → readable format (length image) lsn 1 ≡ t → given ((image_source format image).at lsn) ≡ sector_data format image lsn
+      go true e = ap given (image_at lsn e)
+      go false e = ap given (image_not_at lsn e) ∙ sym (sector_missing format image lsn e)
 
   -- what an image's source holds is a sector of the image
   pub image_holds : (lsn : ℕ) (d : List ℕ) → (image_source format image).at lsn ≡ some d

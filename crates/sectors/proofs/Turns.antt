@@ -1,91 +1,150 @@
--- A turn of the loops over a run's sectors: what is copied or compared so far, and one sector more. Assumes nothing.
-use Rattle.std.proofs.Common.{◌≡◌, ℕ, ◌+◌, ◌-◌, ◌*◌, ◌<◌, ◌≤◌, Bool, true, false, List, ◌++◌, length, take, drop, sym, refl, ap, ◌∙◌, add-one, arith, length-drop, take-append-drop, length-take, length-take-le, take-add}
+-- A turn of the loops over a run's sectors, of any source: what is found, copied or compared so far, and one sector more. Assumes nothing.
+use Rattle.std.proofs.Common.{◌≡◌, ℕ, zero, suc, ◌+◌, ◌-◌, ◌*◌, ◌<◌, ◌≤◌, Bool, true, false, ◌&&◌, List, [], ◌++◌, length, take, drop, sym, refl, ap, subst, ◌∙◌, add-zero, arith, length-take-le, take_all, take-take, take-add}
+use mathlib.Core.Bool.{and-eq-true_iff}
+use mathlib.Core.Option.{Option, none, some}
 use borrow.Rule.Slice.PartMut.{put_mid}
+use lib.Seq.{take-append-le}
+use Rattle.std.specs.Bool.{MatchBool}
+use Rattle.std.specs.List.{AllWithin, HoldsAt, range_with_len}
+use Rattle.std.proofs.lemmas.List.FromFn.{length-range_with_len, get_or-range_with_len}
 use Rattle.sectors.specs.Fill.{part, fill}
-use Rattle.sectors.specs.FillLaws.{slice_part, put_fill, part_front, fill_more}
+use Rattle.sectors.specs.FillLaws.{put_fill, fill_more, fill_none}
 use Rattle.sectors.specs.Format.{sector_size}
-use Rattle.sectors.specs.Sector.{readable, sector_data, run_data}
-use Rattle.sectors.proofs.SectorLaws.{readable_true, count_bound, sector_of_run, sector_length, run_shorter, run_length, run_part}
+use Rattle.sectors.specs.Options.{Known, is_there, given}
+use Rattle.sectors.specs.OptionLaws.{there_known, known_there, not_there}
+use Rattle.sectors.specs.Source.{Source, Sized, run_of}
+use Rattle.sectors.proofs.SourceLaws.{run_parts, run_there, run_lost, run_none, next_size, front_size, run_next}
+use Rattle.sectors.specs.Pool.{pooled_count, pooled_source}
 use Rattle.sectors.specs.Bytes.{same}
 use Rattle.sectors.specs.BytesLaws.{same_eq, same_refl, same_append}
 
--- the lent bytes of sector k
-pub bytes_part : (bytes : List ℕ) (to k : ℕ) → to ≡ k * sector_size → take (to + sector_size - to) (drop to bytes) ≡ part (k * sector_size) sector_size bytes
-bytes_part bytes to k e = slice_part to sector_size bytes ∙ ap (λ (p : ℕ). part p sector_size bytes) e
+-- ---- each sector of a run
 
-module _ (format : ℕ) (image : List ℕ) (first count k : ℕ) (there : readable format (length image) first count ≡ true) (more : k < count) where
-  -- the address of the next sector is no larger than the image
-  pub address_bound : first + k ≤ length image
-  address_bound = omega (arith, readable_true format (length image) first count there, count_bound format (length image))
+module _ (s : Source) (lsn count : ℕ) where
+  -- what a test of each of its sectors says, of a run that ends by the source's count
+  abbrev pub Asked : Bool → Type 0
+  Asked t =
+      MatchBool t (AllWithin (λ k. is_there (s.at k) ≡ true) (range_with_len lsn count) 0 (length (range_with_len lsn count)))
+      ((k : ℕ) × (k < length (range_with_len lsn count)) × HoldsAt (λ k. is_there (s.at k) ≡ false) (range_with_len lsn count) k)
 
-  -- the next sector is in the image
-  pub next_there : readable format (length image) (first + k) 1 ≡ true
-  next_there = sector_of_run format image first count k there more
+  pub all_there : lsn + count ≤ s.count → (t : Bool) → Asked t → t ≡ is_there (run_of s lsn count)
+  unfolding is_there
+  all_there h true each =
+      let at : (k : ℕ) → k < count → is_there (s.at (lsn + k)) ≡ true =
+      λ k l. subst (λ n. is_there (s.at n) ≡ true) (get_or-range_with_len lsn count k 0 l) (each k 0 (omega arith) (rw length-range_with_len l)) in
+      sym (known_there (run_of s lsn count) (run_there s lsn count h (λ k l. there_known (s.at (lsn + k)) (at k l))))
+  all_there h false lost =
+      let k = lost.0 in
+      let l : k < count = rw length-range_with_len at lost.1 in
+      let gone : s.at (lsn + k) ≡ none =
+      not_there (s.at (lsn + k)) (subst (λ n. is_there (s.at n) ≡ false) (get_or-range_with_len lsn count k 0 l) (lost.2 0)) in
+      sym (ap is_there (run_lost s lsn count k l gone))
 
-  -- its data, and as many bytes of a buffer that has room for all
-  pub next_length : (next buf : List ℕ) (to : ℕ) → next ≡ sector_data format image (first + k) → to + sector_size ≤ length buf
-      → length next ≡ length (take (to + sector_size - to) (drop to buf))
-  next_length next buf to e room =
-      let d = ap length e ∙ sector_length format image (first + k) next_there in
-      simp (length-take, length-drop) (omega arith)
+  -- one that does not is not
+  pub past_end : s.count < lsn + count → false ≡ is_there (run_of s lsn count)
+  unfolding is_there
+  past_end h = go (run_of s lsn count) refl
+    where
+      go : (x : Option (List ℕ)) → run_of s lsn count ≡ x → false ≡ is_there x
+      go none q = refl
+      go (some b) q = absurd (omega (arith, (run_parts s lsn count b q).0))
 
-  abbrev run : ℕ → List ℕ
-  run n = run_data format image first n
+-- nothing is copied or compared at first
+module _ (s : Source) (lsn : ℕ) where
+  pub copy_start : (at : ℕ) (old : List ℕ) → old ≡ fill at (given (run_of s lsn 0)) old
+  copy_start at old = sym (ap (λ (r : List ℕ). fill at r old) (run_none s lsn) ∙ fill_none at old)
 
-  run_next : run (k + 1) ≡ run k ++ sector_data format image (first + k)
-  unfolding run_data
-  run_next = rw add-one
+  pub same_start : same (given (run_of s lsn 0)) [] ≡ true
+  unfolding same
+  same_start = ap (λ (r : List ℕ). same r []) (run_none s lsn)
 
-  so_far : length (run k) ≡ k * sector_size
-  so_far = run_length format image first k (run_shorter format image first count k there (omega arith))
+module _ (s : Source) (z : Sized s) (lsn count : ℕ) (here : is_there (run_of s lsn count) ≡ true) where
+  there : Known (run_of s lsn count)
+  there = there_known (run_of s lsn count) here
 
-  sector_size_lem : length (sector_data format image (first + k)) ≡ sector_size
-  sector_size_lem = sector_length format image (first + k) next_there
+  -- the start of a run is a shorter run
+  prefix_by : (j d : ℕ) → j + d ≤ count → take (j * sector_size) (given (run_of s lsn (j + d))) ≡ given (run_of s lsn j)
+  prefix_by j zero h =
+      let l = front_size s z lsn count there j (omega arith) in
+      ap (λ (n : ℕ). take (j * sector_size) (given (run_of s lsn n))) (add-zero j) ∙ take_all (j * sector_size) (given (run_of s lsn j)) (omega arith)
+  prefix_by j (suc d) h =
+      let l = front_size s z lsn count there (j + d) (omega arith) in
+      let e : j + suc d ≡ j + d + 1 = omega arith in
+      ap (λ (n : ℕ). take (j * sector_size) (given (run_of s lsn n))) e
+      ∙ ap (take (j * sector_size)) (run_next s z lsn count there (j + d) (omega arith))
+      ∙ take-append-le (j * sector_size) (given (run_of s lsn (j + d))) (given (s.at (lsn + (j + d)))) (omega arith)
+      ∙ prefix_by j d (omega arith)
 
-  -- the sector is copied behind those before it
-  pub copy_turn : (old buf last : List ℕ) (at to : ℕ) → at + count * sector_size ≤ length old → to ≡ at + k * sector_size
-      → buf ≡ fill at (run k) old → last ≡ sector_data format image (first + k)
-      → put_mid to (to + sector_size - to) buf last ≡ fill at (run (k + 1)) old
-  copy_turn old buf last at to room et eb el =
-      let l = so_far in
-      let s = sector_size_lem in
-      let size : length last ≡ to + sector_size - to = omega (arith, ap length el) in
-      let here : to ≡ at + length (run k) = omega arith in
-      put_fill to (to + sector_size - to) buf last size
-      ∙ (λ i. fill (here i) (el i) (eb i))
-      ∙ fill_more at (run k) old (omega arith) (sector_data format image (first + k)) (omega arith)
-      ∙ ap (λ (r : List ℕ). fill at r old) (sym run_next)
+  prefix : (j : ℕ) → j ≤ count → take (j * sector_size) (given (run_of s lsn count)) ≡ given (run_of s lsn j)
+  prefix j h =
+      let e : j + (count - j) ≡ count = omega arith in
+      ap (λ (n : ℕ). take (j * sector_size) (given (run_of s lsn n))) (sym e) ∙ prefix_by j (count - j) (omega arith)
 
-  module _ (bytes : List ℕ) (long : count * sector_size ≤ length bytes) where
-    -- the sectors so far are the same, and the next is
-    pub same_turn : same (run k) (take (k * sector_size) bytes) ≡ true → same (sector_data format image (first + k)) (part (k * sector_size) sector_size bytes) ≡ true
-        → same (run (k + 1)) (take ((k + 1) * sector_size) bytes) ≡ true
-    unfolding part
-    same_turn before here =
-        let end : (k + 1) * sector_size ≡ k * sector_size + sector_size = omega arith in
-        let l = length-take-le (k * sector_size) bytes (omega arith) in
-        rw (
-          run_next,
-          end,
-          take-add (k * sector_size) sector_size bytes,
-          same_append (run k) (take (k * sector_size) bytes) (sector_data format image (first + k)) (take sector_size (drop (k * sector_size) bytes)) (so_far ∙ sym l),
-          before,
-          here,
-        )
+  module _ (k : ℕ) (more : k < count) where
+    abbrev run : ℕ → List ℕ
+    run n = given (run_of s lsn n)
 
-    -- the next is not: then the whole is not
-    pub same_stop : same (sector_data format image (first + k)) (part (k * sector_size) sector_size bytes) ≡ false
-        → same (run count) (take (count * sector_size) bytes) ≡ false
-    same_stop differs = go (same (run count) (take (count * sector_size) bytes)) refl
-      where
-        go : (t : Bool) → same (run count) (take (count * sector_size) bytes) ≡ t → t ≡ false
-        go false e = refl
-        go true e =
-            let l = length-take-le (count * sector_size) bytes long in
-            let whole = same_eq (run count) (take (count * sector_size) bytes) e in
-            let here : sector_data format image (first + k) ≡ part (k * sector_size) sector_size bytes =
-            sym (run_part format image first count k there more) ∙ ap (part (k * sector_size) sector_size) whole
-            ∙ sym (part_front (take (count * sector_size) bytes) (drop (count * sector_size) bytes) (k * sector_size) sector_size (omega arith))
-            ∙ ap (part (k * sector_size) sector_size) (take-append-drop (count * sector_size) bytes) in
-            sym (same_refl (part (k * sector_size) sector_size bytes))
-            ∙ ap (λ (s : List ℕ). same s (part (k * sector_size) sector_size bytes)) (sym here) ∙ differs
+    abbrev next : List ℕ
+    next = given (s.at (lsn + k))
+
+    -- the sector is copied behind those before it
+    pub copy_turn : (old buf last : List ℕ) (at to : ℕ) → at + count * sector_size ≤ length old → to ≡ at + k * sector_size
+        → buf ≡ fill at (run k) old → last ≡ next
+        → put_mid to (to + sector_size - to) buf last ≡ fill at (run (k + 1)) old
+    copy_turn old buf last at to room et eb el =
+        let l = front_size s z lsn count there k (omega arith) in
+        let d = next_size s z lsn count there k more in
+        let size : length last ≡ to + sector_size - to = omega (arith, ap length el) in
+        let place : to ≡ at + length (run k) = omega arith in
+        put_fill to (to + sector_size - to) buf last size
+        ∙ (λ i. fill (place i) (el i) (eb i))
+        ∙ fill_more at (run k) old (omega arith) next (omega arith)
+        ∙ ap (λ (r : List ℕ). fill at r old) (sym (run_next s z lsn count there k more))
+
+    module _ (bytes : List ℕ) (long : count * sector_size ≤ length bytes) where
+      -- the sectors so far are the same, and the next is
+      pub same_turn : same (run k) (take (k * sector_size) bytes) ≡ true → same next (part (k * sector_size) sector_size bytes) ≡ true
+          → same (run (k + 1)) (take ((k + 1) * sector_size) bytes) ≡ true
+      unfolding part
+      same_turn before now-too =
+          let end : (k + 1) * sector_size ≡ k * sector_size + sector_size = omega arith in
+          let l = length-take-le (k * sector_size) bytes (omega arith) in
+          rw (
+            run_next s z lsn count there k more,
+            end,
+            take-add (k * sector_size) sector_size bytes,
+            same_append (run k) (take (k * sector_size) bytes) next (take sector_size (drop (k * sector_size) bytes)) (front_size s z lsn count there k (omega arith) ∙ sym l),
+            before,
+            now-too,
+          )
+
+      -- the next is not: then the whole is not
+      pub same_stop : same next (part (k * sector_size) sector_size bytes) ≡ false → same (run count) (take (count * sector_size) bytes) ≡ false
+      unfolding part
+      same_stop differs = go (same (run count) (take (count * sector_size) bytes)) refl
+        where
+          go : (t : Bool) → same (run count) (take (count * sector_size) bytes) ≡ t → t ≡ false
+          go false e = refl
+          go true e =
+              let whole = same_eq (run count) (take (count * sector_size) bytes) e in
+              let end : (k + 1) * sector_size ≡ k * sector_size + sector_size = omega arith in
+              let l = length-take-le (k * sector_size) bytes (omega arith) in
+              let mine : run k ++ next ≡ take (k * sector_size) bytes ++ take sector_size (drop (k * sector_size) bytes) =
+              sym (run_next s z lsn count there k more) ∙ sym (prefix (k + 1) (omega arith)) ∙ ap (take ((k + 1) * sector_size)) whole
+              ∙ take-take ((k + 1) * sector_size) (count * sector_size) bytes (omega arith)
+              ∙ ap (λ (n : ℕ). take n bytes) end ∙ take-add (k * sector_size) sector_size bytes in
+              let yes_too : (same (run k) (take (k * sector_size) bytes) && same next (take sector_size (drop (k * sector_size) bytes))) ≡ true =
+              sym (same_append (run k) (take (k * sector_size) bytes) next (take sector_size (drop (k * sector_size) bytes)) (front_size s z lsn count there k (omega arith) ∙ sym l))
+              ∙ ap (λ (x : List ℕ). same x (take (k * sector_size) bytes ++ take sector_size (drop (k * sector_size) bytes))) mine
+              ∙ same_refl (take (k * sector_size) bytes ++ take sector_size (drop (k * sector_size) bytes)) in
+              sym ((and-eq-true_iff (same (run k) (take (k * sector_size) bytes)) (same next (take sector_size (drop (k * sector_size) bytes)))).0 yes_too).1 ∙ differs
+
+-- ---- of the pool: what the program finds of its sectors
+module _ (first second : List ℕ) (n count : ℕ) {m : ℕ} (e : m ≡ pooled_count (length first) (length second)) where
+  pub pool_past : m < n + count → false ≡ is_there (run_of (pooled_source first second) n count)
+  unfolding pooled_source
+  pool_past h = past_end (pooled_source first second) n count (omega arith)
+
+  pub pool_all : n + count ≤ m → (t : Bool) → Asked (pooled_source first second) n count t → t ≡ is_there (run_of (pooled_source first second) n count)
+  unfolding pooled_source
+  pool_all h t asked = all_there (pooled_source first second) n count (omega arith) t asked

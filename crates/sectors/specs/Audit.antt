@@ -1,12 +1,13 @@
 -- The header audit (01, "Header"; "audit 1, 11, 8"; 02, item 2). Assumes nothing.
-use Rattle.std.specs.Prelude.{◌≡◌, ℕ, ◌+◌, ◌*◌, true, cond, List, length, ◌==◌}
+use Rattle.std.specs.Prelude.{◌≡◌, ℕ, Result, Ok, Err, ◌+◌, ◌*◌, true, cond, List, length, ◌==◌}
 use Rattle.sectors.specs.Fill.{part}
-use Rattle.sectors.specs.Refusal.{foreign_format, no_such_entry, no_header}
+use Rattle.sectors.specs.Refusal.{foreign_format, no_such_entry, no_header, number_of}
 use Rattle.sectors.specs.Format.{foreign, stored_size}
 use Rattle.sectors.specs.Sector.{readable}
 use Rattle.sectors.specs.Header.{is_sound, is_blank}
-use Rattle.sectors.specs.declared.header.AuditResult.{AuditResult}
-use Rattle.sectors.specs.declared.header.AuditResult.TheVariants as audit
+use Rattle.sectors.specs.declared.refusal.Refusal.{Refusal}
+use Rattle.sectors.specs.declared.header.Verdict.{Verdict}
+use Rattle.sectors.specs.declared.header.Verdict.TheVariants as verdict
 use Rattle.sectors.specs.declared.header.AuditAnswer.{AuditAnswer}
 
 -- 02, item 2: "The audit shall answer sound, blank or unsound"
@@ -27,13 +28,14 @@ abbrev refused : ℕ → AuditAnswer
 refused number = record { refusal = number; verdict = 0 }
 
 -- "a definition states this paper's number and values for each of the enum's cases"
-unfoldable pub answer_of : AuditResult → AuditAnswer
-answer_of audit.Sound = judged sound_verdict
-answer_of audit.Blank = judged blank_verdict
-answer_of audit.Unsound = judged unsound_verdict
-answer_of audit.ForeignFormat = refused foreign_format
-answer_of audit.NoHeader = refused no_header
-answer_of audit.NoSuchEntry = refused no_such_entry
+unfoldable pub verdict_number : Verdict → ℕ
+verdict_number verdict.Sound = sound_verdict
+verdict_number verdict.Blank = blank_verdict
+verdict_number verdict.Unsound = unsound_verdict
+
+unfoldable pub answer_of : Result Verdict Refusal → AuditAnswer
+answer_of (Ok v) = judged (verdict_number v)
+answer_of (Err r) = refused (number_of r)
 
 -- what is answered of a header: sound, blank, or else unsound
 unfoldable pub verdict_of : List ℕ → ℕ
@@ -58,6 +60,10 @@ header_or refuse say format image lsn =
     (cond (format == header_format)
     (cond (readable format (length image) lsn 1) (say (header_at image lsn)) (refuse no_such_entry))
     (refuse no_header))
+
+-- the refusal of these checks; 0 where there is a header
+unfoldable pub header_refusal : ℕ → List ℕ → ℕ → ℕ
+header_refusal format image lsn = header_or (λ number. number) (λ h. 0) format image lsn
 
 unfoldable pub audit_of : ℕ → List ℕ → ℕ → AuditAnswer
 audit_of format image lsn = header_or refused (λ h. judged (verdict_of h)) format image lsn

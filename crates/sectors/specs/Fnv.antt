@@ -1,9 +1,9 @@
 -- FNV-1a, 64 bits, as published (01, "Fingerprint"). Assumes nothing.
-use Rattle.std.specs.Prelude.{ℕ, ◌*◌, ◌%◌, ◌^◌, cond, List, length, bit_xor}
-use mathlib.Core.List.{foldl}
-use Rattle.sectors.specs.Refusal.{foreign_format, no_such_entry}
+use Rattle.std.specs.Prelude.{ℕ, Result, Ok, Err, ◌*◌, ◌%◌, ◌^◌, cond, List, length, fold, bit_xor}
+use Rattle.sectors.specs.Refusal.{foreign_format, no_such_entry, number_of}
 use Rattle.sectors.specs.Format.{foreign}
 use Rattle.sectors.specs.Sector.{readable, sector_data}
+use Rattle.sectors.specs.declared.refusal.Refusal.{Refusal}
 use Rattle.sectors.specs.declared.fnv.FingerprintAnswer.{FingerprintAnswer}
 
 -- The published offset basis and prime.
@@ -19,13 +19,21 @@ fnv_step hash byte = bit_xor hash byte * prime % 2 ^ 64
 
 -- "The same fold is offered over any lent bytes".
 unfoldable pub digest_of : List ℕ → ℕ
-digest_of bytes = foldl fnv_step offset_basis bytes
+digest_of bytes = fold fnv_step offset_basis bytes
+
+abbrev found : ℕ → FingerprintAnswer
+found digest = record { refusal = 0; digest = digest }
 
 abbrev refused : ℕ → FingerprintAnswer
 refused number = record { refusal = number; digest = 0 }
+
+-- "a definition states this paper's number and values for each of the enum's cases" (01)
+unfoldable pub fingerprinted : Result ℕ Refusal → FingerprintAnswer
+fingerprinted (Ok digest) = found digest
+fingerprinted (Err r) = refused (number_of r)
 
 -- "Fingerprint: .. FNV-1a of a sector's 2,048 data bytes"; "fingerprint 1, 8".
 unfoldable pub fingerprint_of : ℕ → List ℕ → ℕ → FingerprintAnswer
 fingerprint_of format image lsn =
     cond (foreign format) (refused foreign_format)
-    (cond (readable format (length image) lsn 1) (record { refusal = 0; digest = digest_of (sector_data format image lsn) }) (refused no_such_entry))
+    (cond (readable format (length image) lsn 1) (found (digest_of (sector_data format image lsn))) (refused no_such_entry))

@@ -1,7 +1,6 @@
 -- A sector's header (01, "Header"; ECMA-267): "4 bytes ID, 2 bytes IED", the coefficients of a polynomial over the field, "first
 -- byte highest". Assumes nothing.
-use Rattle.std.specs.Prelude.{◌≡◌, ℕ, ◌<◌, Bool, not, ◌&&◌, List, [], ◌∷◌, length, ◌==◌, slice_index}
-use mathlib.Core.List.{foldl}
+use Rattle.std.specs.Prelude.{◌≡◌, ℕ, ◌<◌, Bool, not, ◌&&◌, List, [], ◌∷◌, length, fold, ◌==◌, slice_index}
 use Rattle.sectors.specs.Bytes.{same}
 use Rattle.sectors.specs.Field.{◌⊕◌, times_alpha}
 
@@ -50,10 +49,10 @@ pub record Unsound (h : List ℕ) : Type 0 where
 
 -- The polynomial's value at 1 and at α, its syndromes, by Horner's rule.
 unfoldable pub at_one : List ℕ → ℕ
-at_one h = foldl ◌⊕◌ 0 h
+at_one h = fold ◌⊕◌ 0 h
 
 unfoldable pub at_alpha : List ℕ → ℕ
-at_alpha h = foldl (λ v a. times_alpha v ⊕ a) 0 h
+at_alpha h = fold (λ v a. times_alpha v ⊕ a) 0 h
 
 -- The tests that decide `Multiple`, `Blank` and `Sound` of six bytes: zero at both roots; the six zeros; the one without the other.
 unfoldable pub is_multiple : List ℕ → Bool

@@ -1,5 +1,5 @@
 -- Logarithms in the field, to the base α (02, item 7). Assumes nothing.
-use Rattle.std.specs.Prelude.{◌≡◌, ℕ, zero, suc, ◌-◌, ◌<◌, ◌≤◌, List, [], ◌∷◌, replicate, slice_index, slice_set}
+use Rattle.std.specs.Prelude.{◌≡◌, ℕ, zero, suc, ◌-◌, ◌≤◌, ◌≢◌, List, [], ◌∷◌, replicate, slice_index, slice_set}
 use Rattle.sectors.specs.Field.{times_alpha}
 
 -- f, n times over
@@ -37,8 +37,11 @@ logs = stored 0 powers (replicate nonzero_count 0)
 unfoldable pub log : ℕ → ℕ
 log x = slice_index logs (x - 1)
 
--- ---- a step of the program, no rule of 02: the least n for which α to the n times a is b; 255 or more if there is none
+-- ---- a step of the program, no rule of 02: the least n for which α to the n times a is b, or that there is none
 
 pub record LeastExponent (a b n : ℕ) : Type 0 where
-  pub takes : n < nonzero_count → times_power n a ≡ b
+  pub takes : times_power n a ≡ b
   pub is_least : (k : ℕ) → times_power k a ≡ b → n ≤ k
+
+pub record NoExponent (a b : ℕ) : Type 0 where
+  pub none_takes : (k : ℕ) → times_power k a ≢ b

@@ -1,8 +1,9 @@
 -- Mending a header (02, item 7). Assumes nothing.
-use Rattle.std.specs.Prelude.{◌≡◌, ℕ, zero, suc, ◌*◌, ◌/◌, ◌%◌, ◌<◌, cond, ◌≢◌, List, slice_index, slice_set}
-use Rattle.sectors.specs.Refusal.{beyond_mending}
+use Rattle.std.specs.Prelude.{◌≡◌, ℕ, Result, Ok, Err, zero, suc, ◌*◌, ◌/◌, ◌%◌, ◌<◌, cond, ◌≢◌, List, slice_index, slice_set}
+use Rattle.sectors.specs.Refusal.{beyond_mending, number_of}
 use Rattle.sectors.specs.Header.{SixBytes, Multiple, is_multiple, six_zeros}
 use Rattle.sectors.specs.Audit.{header_size, header_or}
+use Rattle.sectors.specs.declared.refusal.Refusal.{Refusal}
 use Rattle.sectors.specs.declared.mend.Mended.{Mended}
 
 -- "differ .. in at most one place": equal at every place but that one
@@ -26,6 +27,11 @@ mended_to m = record { refusal = 0; header = m }
 
 unfoldable pub unmended : ℕ → Mended
 unmended number = record { refusal = number; header = six_zeros }
+
+-- "a definition states this paper's number and values for each of the enum's cases" (01)
+unfoldable pub mended_by : Result (List ℕ) Refusal → Mended
+mended_by (Ok m) = mended_to m
+mended_by (Err r) = unmended (number_of r)
 
 -- Each header that differs from h in at most one place is one of 6 x 256 candidates, h itself six of them: the byte n % 256 at the place n / 256.
 unfoldable pub candidate : List ℕ → ℕ → List ℕ

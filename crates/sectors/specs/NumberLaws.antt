@@ -1,6 +1,6 @@
 -- Laws of `be_at`, at every width. Assumes nothing.
-use Rattle.std.specs.Prelude.{◌≡◌, ℕ, zero, suc, ◌+◌, ◌*◌, ◌^◌, ◌<◌, ◌≤◌, List, length, slice_index, refl}
-use Rattle.std.proofs.Common.{sym, ap, ◌∙◌, add-zero, add-suc, add_assoc, mul_assoc, pow-suc, arith}
+use Rattle.std.specs.Prelude.{◌≡◌, ℕ, zero, suc, ◌+◌, ◌-◌, ◌*◌, ◌^◌, ◌<◌, ◌≤◌, min, Bool, true, false, nat_le, List, length, take, drop, slice_index, refl}
+use Rattle.std.proofs.Common.{sym, ap, ◌∙◌, add-zero, add-suc, add_assoc, mul_assoc, pow-suc, arith, le_of_eq, length-drop, take_all, leb-true, leb-false, get_or-drop}
 use Rattle.std.proofs.Math.ListN.{get_or-eq_default}
 use Rattle.sectors.specs.Fill.{part}
 use Rattle.sectors.specs.FillLaws.{part_at}
@@ -18,6 +18,20 @@ be_past (suc w) table at h =
 pub be_byte : (table : List ℕ) (at : ℕ) → be_at table at 1 ≡ slice_index table at
 unfolding be_at
 be_byte table at = simp add-zero (omega arith)
+
+-- what stands from a place on, or from the end if the place is past it
+pub rest_at : (table : List ℕ) (at start i : ℕ) → start ≡ min at (length table)
+    → slice_index (take (length table - start) (drop start table)) i ≡ slice_index table (at + i)
+rest_at table at start i e =
+    ap (λ (t : List ℕ). slice_index t i) (take_all (length table - start) (drop start table) (le_of_eq (length-drop start table)))
+    ∙ get_or-drop start table i 0
+    ∙ go (nat_le at (length table)) refl
+  where
+    go : (inside : Bool) → nat_le at (length table) ≡ inside → slice_index table (start + i) ≡ slice_index table (at + i)
+    go true l = let same : start ≡ at = omega (arith, leb-true at (length table) l) in rw same
+    go false l =
+        let past = leb-false at (length table) l in
+        get_or-eq_default table 0 (omega arith) ∙ sym (get_or-eq_default table 0 (omega arith))
 
 -- a number of w and n bytes is that of the first w, raised by n bytes, and that of the n after them
 pub be_split : (w n : ℕ) (table : List ℕ) (at : ℕ) → be_at table at (w + n) ≡ be_at table at w * 256 ^ n + be_at table (at + w) n

@@ -1,17 +1,22 @@
 -- Two rips of one disc (02, item 8); and what is read from, one image or two rips. Assumes nothing.
-use Rattle.std.specs.Prelude.{ℕ, ◌+◌, ◌*◌, max, Bool, cond, ◌&&◌, List, length, nat_lt}
+use Rattle.std.specs.Prelude.{ℕ, ◌+◌, ◌*◌, max, cond, ◌&&◌, Bool, List, length, nat_lt, Result, Ok, Err, Some, None}
+use Rattle.std.specs.Prelude as std
 use Rattle.std.proofs.Math.Option.{Option, some}
 use Rattle.sectors.specs.Options.{only_if}
 use Rattle.sectors.specs.Fill.{start_at}
 use Rattle.sectors.specs.Format.{stored_size, data_offset}
-use Rattle.sectors.specs.Refusal.{no_such_entry}
+use Rattle.sectors.specs.Refusal.{number_of}
 use Rattle.sectors.specs.Sector.{sector_count, readable, sector_data, data_start}
 use Rattle.sectors.specs.Header.{is_sound}
 use Rattle.sectors.specs.Audit.{header_format, header_at}
 use Rattle.sectors.specs.Source.{Source, image_source}
-use Rattle.sectors.specs.declared.pool.PoolResult.{PoolResult}
-use Rattle.sectors.specs.declared.pool.PoolResult.TheVariants as pool
+use Rattle.sectors.specs.declared.refusal.Refusal.{Refusal}
+use Rattle.sectors.specs.declared.refusal.Refusal.TheVariants as refusal
+use Rattle.sectors.specs.declared.pool.Rip.{Rip}
+use Rattle.sectors.specs.declared.pool.Rip.TheVariants as rip
 use Rattle.sectors.specs.declared.pool.PoolAnswer.{PoolAnswer}
+use Rattle.sectors.specs.declared.source.Source as lent
+use Rattle.sectors.specs.declared.source.Source.TheVariants as source
 
 -- "Operators rip a bad disc twice, both as format 2": a rip is an image of the format that has headers, `header_format`.
 
@@ -54,27 +59,30 @@ abbrev pub lost_rip : ℕ
 lost_rip = 0
 
 -- "a definition states this paper's number and values for each of the enum's cases" (01): of a sector that a rip has also the place of its data there
-unfoldable pub answer_of : ℕ → PoolResult → PoolAnswer
-answer_of lsn pool.First = record { refusal = 0; rip = first_rip; place = data_place lsn }
-answer_of lsn pool.Second = record { refusal = 0; rip = second_rip; place = data_place lsn }
-answer_of lsn pool.Lost = record { refusal = 0; rip = lost_rip; place = 0 }
-answer_of lsn pool.NoSuchEntry = record { refusal = no_such_entry; rip = lost_rip; place = 0 }
+unfoldable pub answer_of : ℕ → Result (std.Option Rip) Refusal → PoolAnswer
+answer_of lsn (Ok (Some rip.First)) = record { refusal = 0; rip = first_rip; place = data_place lsn }
+answer_of lsn (Ok (Some rip.Second)) = record { refusal = 0; rip = second_rip; place = data_place lsn }
+answer_of lsn (Ok None) = record { refusal = 0; rip = lost_rip; place = 0 }
+answer_of lsn (Err r) = record { refusal = number_of r; rip = lost_rip; place = 0 }
 
--- "part of the first rip .., else of the second .., else lost. .. one beyond both is refused 8."
-unfoldable pub which_rip : List ℕ → List ℕ → ℕ → PoolResult
+-- "part of the first rip .., else of the second .., else lost."
+unfoldable pub rip_of : List ℕ → List ℕ → ℕ → std.Option Rip
+rip_of first second lsn = cond (sound_in first lsn) (Some rip.First) (cond (sound_in second lsn) (Some rip.Second) None)
+
+-- "one beyond both is refused 8."
+unfoldable pub which_rip : List ℕ → List ℕ → ℕ → Result (std.Option Rip) Refusal
 which_rip first second lsn =
-    cond (nat_lt lsn (pooled_count (length first) (length second)))
-    (cond (sound_in first lsn) pool.First (cond (sound_in second lsn) pool.Second pool.Lost))
-    pool.NoSuchEntry
+    cond (nat_lt lsn (pooled_count (length first) (length second))) (Ok (rip_of first second lsn)) (Err refusal.NoSuchEntry)
 
 unfoldable pub pool_of : List ℕ → List ℕ → ℕ → PoolAnswer
 pool_of first second lsn = answer_of lsn (which_rip first second lsn)
 
 -- ---- what is read from: two rips, or one image in a format
-unfoldable pub source_of : Bool → ℕ → List ℕ → List ℕ → Source
-source_of pooled format first second = cond pooled (pooled_source first second) (image_source format first)
+unfoldable pub source_of : lent.Source → Source
+source_of (source.Image image) = image_source image.format image.bytes.now
+source_of (source.Rips rips) = pooled_source rips.first.now rips.second.now
 
 -- where the data bytes of a sector begin, in the memory of a rip or of the image
-unfoldable pub source_start : Bool → ℕ → List ℕ → List ℕ → ℕ → ℕ × ℕ → ℕ × ℕ → ℕ × ℕ
-source_start pooled format first second lsn a b =
-    cond pooled (pooled_start first second lsn a b) (start_at a (data_start format (length first) lsn))
+unfoldable pub source_start : lent.Source → ℕ → ℕ × ℕ
+source_start (source.Image image) lsn = start_at image.bytes.ref_ptr (data_start image.format (length image.bytes.now) lsn)
+source_start (source.Rips rips) lsn = pooled_start rips.first.now rips.second.now lsn rips.first.ref_ptr rips.second.ref_ptr

@@ -1,12 +1,13 @@
 -- Reading a run of sectors into lent memory, and comparing one with it. Assumes nothing.
-use Rattle.std.specs.Prelude.{ℕ, ◌+◌, ◌*◌, Bool, cond, not, ◌&&◌, List, length, take, ◌==◌, nat_le}
-use Rattle.sectors.specs.Refusal.{foreign_format, short_buffer, no_such_entry}
+use Rattle.std.specs.Prelude.{ℕ, Result, Ok, Err, ◌+◌, ◌*◌, Bool, cond, not, ◌&&◌, List, length, take, ◌==◌, nat_le}
+use Rattle.sectors.specs.Refusal.{foreign_format, short_buffer, no_such_entry, number_of}
 use Rattle.sectors.specs.Format.{foreign, sector_size}
 use Rattle.sectors.specs.Sector.{readable, run_data}
 use Rattle.sectors.specs.Bytes.{same}
 use Rattle.sectors.specs.Fill.{fill}
 use Rattle.sectors.specs.Options.{is_there, given}
 use Rattle.sectors.specs.Source.{Source, run_of}
+use Rattle.sectors.specs.declared.refusal.Refusal.{Refusal}
 use Rattle.sectors.specs.declared.run.Comparison.{Comparison}
 
 -- The refusal of a run that is to be read into, or compared with, `size` lent bytes from a place on: "1 | foreign format", "2 | ..
@@ -32,6 +33,11 @@ comparison_of format image lsn count bytes =
           (read_refusal format (length image) lsn count 0 (length bytes) == 0
           && same (run_data format image lsn count) (take (count * sector_size) bytes)) 1 0;
     }
+
+-- "a definition states this paper's number and values for each of the enum's cases" (01)
+unfoldable pub compared : Result Bool Refusal → Comparison
+compared (Ok equal) = record { refusal = 0; equal = cond equal 1 0 }
+compared (Err r) = record { refusal = number_of r; equal = 0 }
 
 -- ---- of any source
 -- The lent bytes after a run is read into them: it fills them from a place on, if it is there and there is room.

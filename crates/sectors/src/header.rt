@@ -1,12 +1,12 @@
 // The header of a sector of a format 2 image: six bytes, blank when they are zeros, sound when they are another multiple of (x + 1)(x + α).
-ghost use Rattle.std.specs.Prelude.{◌≡◌, ◌↔◌, length};
+ghost use Rattle.std.specs.Prelude.{◌≡◌, ◌↔◌, Ok, IfOk};
+ghost use Rattle.sectors.specs.Refusal.{refusal_of};
 ghost use Rattle.sectors.specs.Header.{Sound, Blank, Unsound, at_one, at_alpha, is_multiple, is_blank, is_sound};
-ghost use Rattle.sectors.specs.Audit.{HeaderIn, answer_of, audit_of};
+ghost use Rattle.sectors.specs.Audit.{HeaderIn, header_refusal, verdict_number, verdict_of, answer_of, audit_of};
 
-use crate::bytes::same_bytes;
 use crate::field::times_alpha;
-use crate::refusal::{FOREIGN_FORMAT, NO_HEADER, NO_SUCH_ENTRY};
-use crate::sector::{Lsn, contains, is_foreign, stored_part};
+use crate::refusal::Refusal;
+use crate::sector::{Image, Lsn, contains, is_foreign, stored_part};
 
 // Bytes of a header: four of ID, two of IED.
 pub const HEADER_SIZE: usize = 6;
@@ -14,25 +14,15 @@ pub const HEADER_SIZE: usize = 6;
 // The format that keeps headers, `Raw2064`.
 pub const HEADER_FORMAT: u32 = 2;
 
-// What the audit of a header answers.
-#[derive(Clone, Copy)]
-pub enum AuditResult {
-    Sound,
-    Blank,
-    Unsound,
-    ForeignFormat,
-    NoHeader,
-    NoSuchEntry,
+// What the audit says of a header.
+#[derive(Clone, Copy, Debug, PartialEq, Eq)]
+pub enum Verdict {
+    Sound = 1,
+    Blank = 2,
+    Unsound = 3,
 }
 
-// The verdicts as numbers.
-pub const SOUND: u8 = 1;
-
-pub const BLANK: u8 = 2;
-
-pub const UNSOUND: u8 = 3;
-
-// The same as numbers: 0 and the verdict, or a refusal and 0.
+// What the audit answers as C has it: 0 and the verdict's number, or a refusal and 0.
 #[repr(C)]
 #[derive(Clone, Copy)]
 pub struct AuditAnswer {
@@ -44,26 +34,14 @@ pub struct AuditAnswer {
 pub(crate) fn at_one(h: &[u8]) -> u8
     ensures { result ≡ at_one h.now }
 {
-    let mut v = 0;
-    let mut i = 0;
-    while i < h.len() {
-        v = v ^ h[i];
-        i += 1;
-    }
-    v
+    h.iter().fold(0, |v, &b| v ^ b)
 }
 
-// Its value at α.
+// Its value at α. (Two folds of a line each: one over the product would be no plainer.)
 pub(crate) fn at_alpha(h: &[u8]) -> u8
     ensures { result ≡ at_alpha h.now }
 {
-    let mut v = 0;
-    let mut i = 0;
-    while i < h.len() {
-        v = times_alpha(v) ^ h[i];
-        i += 1;
-    }
-    v
+    h.iter().fold(0, |v, &b| times_alpha(v) ^ b)
 }
 
 // Whether bytes are zero at 1 and at α: six are then a multiple of (x + 1)(x + α).
@@ -71,83 +49,85 @@ pub(crate) fn at_alpha(h: &[u8]) -> u8
 fn is_multiple(h: &[u8]) -> bool
     ensures { result ≡ is_multiple h.now }
 {
-    (at_one(h) == 0) & (at_alpha(h) == 0)
+    at_one(h) == 0 && at_alpha(h) == 0
 }
 
 // Whether bytes are those of a blank header, six zeros.
-#[tactic(auto, unfolding(crate::specs::Header::is_blank))]
+#[tactic(auto, unfolding(crate::specs::Header::is_blank, crate::specs::Bytes::same))]
 fn is_blank(h: &[u8]) -> bool
-    requires { length h.now ≡ 6 }
     ensures { result ≡ is_blank h.now }
 {
-    let zeros = [0u8; HEADER_SIZE];
-    same_bytes(h, &zeros)
+    h == [0; HEADER_SIZE].as_slice()
 }
 
 // Whether six bytes are a sound header: a multiple that is not blank.
 #[tactic(auto, unfolding(crate::specs::Header::is_sound))]
 pub(crate) fn is_sound(h: &[u8]) -> bool
-    requires { length h.now ≡ 6 }
     ensures { result ≡ is_sound h.now }
 {
-    is_multiple(h) & !is_blank(h)
+    is_multiple(h) && !is_blank(h)
+}
+
+// What the audit says of a header.
+fn judge(h: &[u8; HEADER_SIZE]) -> Verdict
+    ensures number { verdict_number result ≡ verdict_of h.now }
+    ensures sound { (result ≡ Verdict.Sound) ↔ Sound h.now }
+    ensures blank { (result ≡ Verdict.Blank) ↔ Blank h.now }
+    ensures unsound { (result ≡ Verdict.Unsound) ↔ Unsound h.now }
+{
+    if is_blank(h) {
+        return Verdict::Blank;
+    }
+    if is_multiple(h) {
+        return Verdict::Sound;
+    }
+    Verdict::Unsound
+}
+
+// The header of a sector, which the audit and mending look at.
+#[tactic(auto, unfolding(crate::specs::Audit::header_refusal, crate::specs::Audit::header_or, crate::specs::Refusal::refusal_of, crate::specs::Refusal::number_of))]
+pub(crate) fn header_of(image: Image, lsn: Lsn) -> Result<[u8; HEADER_SIZE], Refusal>
+    ensures refusal { refusal_of result ≡ header_refusal image.entry.format image.entry.bytes.now lsn.0 }
+    ensures found { IfOk result (λ h. HeaderIn (λ g. g ≡ h) image.entry.format image.entry.bytes.now lsn.0) }
+{
+    if is_foreign(image.format) {
+        return Err(Refusal::ForeignFormat);
+    }
+    if image.format != HEADER_FORMAT {
+        return Err(Refusal::NoHeader);
+    }
+    if !contains(image.format, image.bytes.len(), lsn, 1) {
+        return Err(Refusal::NoSuchEntry);
+    }
+    let mut header = [0; HEADER_SIZE];
+    header.copy_from_slice(stored_part(image, lsn.0 as usize, 0, HEADER_SIZE));
+    Ok(header)
 }
 
 // Audits the header of a sector.
-pub fn audit(format: u32, image: &[u8], lsn: Lsn) -> AuditResult
-    ensures answer { answer_of result ≡ audit_of format image.now lsn.0 }
-    ensures sound { (result ≡ AuditResult.Sound) ↔ HeaderIn Sound format image.now lsn.0 }
-    ensures blank { (result ≡ AuditResult.Blank) ↔ HeaderIn Blank format image.now lsn.0 }
-    ensures unsound { (result ≡ AuditResult.Unsound) ↔ HeaderIn Unsound format image.now lsn.0 }
+pub fn audit(image: Image, lsn: Lsn) -> Result<Verdict, Refusal>
+    ensures answer { answer_of result ≡ audit_of image.entry.format image.entry.bytes.now lsn.0 }
+    ensures sound { (result ≡ Ok Verdict.Sound) ↔ HeaderIn Sound image.entry.format image.entry.bytes.now lsn.0 }
+    ensures blank { (result ≡ Ok Verdict.Blank) ↔ HeaderIn Blank image.entry.format image.entry.bytes.now lsn.0 }
+    ensures unsound { (result ≡ Ok Verdict.Unsound) ↔ HeaderIn Unsound image.entry.format image.entry.bytes.now lsn.0 }
 {
-    if is_foreign(format) {
-        return AuditResult::ForeignFormat;
-    }
-    if format != HEADER_FORMAT {
-        return AuditResult::NoHeader;
-    }
-    if !contains(format, image.len(), lsn, 1) {
-        return AuditResult::NoSuchEntry;
-    }
-    let header = stored_part(format, image, lsn.0 as usize, 0, HEADER_SIZE);
-    if is_blank(header) {
-        return AuditResult::Blank;
-    }
-    if is_multiple(header) {
-        return AuditResult::Sound;
-    }
-    AuditResult::Unsound
+    Ok(judge(&header_of(image, lsn)?))
 }
 
-// The numbers of an audit's answer.
-#[tactic(auto, unfolding(crate::specs::Audit::answer_of))]
-pub fn audit_answer(a: AuditResult) -> AuditAnswer
-    ensures { result ≡ answer_of a }
-{
-    match a {
-        AuditResult::Sound => AuditAnswer {
-            refusal: 0,
-            verdict: SOUND,
-        },
-        AuditResult::Blank => AuditAnswer {
-            refusal: 0,
-            verdict: BLANK,
-        },
-        AuditResult::Unsound => AuditAnswer {
-            refusal: 0,
-            verdict: UNSOUND,
-        },
-        AuditResult::ForeignFormat => AuditAnswer {
-            refusal: FOREIGN_FORMAT,
-            verdict: 0,
-        },
-        AuditResult::NoHeader => AuditAnswer {
-            refusal: NO_HEADER,
-            verdict: 0,
-        },
-        AuditResult::NoSuchEntry => AuditAnswer {
-            refusal: NO_SUCH_ENTRY,
-            verdict: 0,
-        },
+impl From<Result<Verdict, Refusal>> for AuditAnswer {
+    ghost from_gives = { λ r a. a ≡ answer_of r };
+
+    #[tactic(auto, unfolding(crate::specs::Audit::answer_of, crate::specs::Audit::verdict_number))]
+    fn from(audited: Result<Verdict, Refusal>) -> AuditAnswer {
+        match audited {
+            Ok(verdict) => AuditAnswer {
+                refusal: 0,
+                verdict: verdict as u8,
+            },
+            Err(refusal) => AuditAnswer {
+                refusal: refusal.into(),
+                verdict: 0,
+            },
+        }
     }
 }

@@ -1,6 +1,6 @@
 // Logarithms in the field, to the base α.
-ghost use Rattle.std.specs.Prelude.{◌≡◌, ◌≢◌};
-ghost use Rattle.sectors.specs.Log.{LeastExponent, log};
+ghost use Rattle.std.specs.Prelude.{◌≡◌, ◌≢◌, IfSome, IfNone};
+ghost use Rattle.sectors.specs.Log.{LeastExponent, NoExponent, log};
 
 // How many values of the field are not zero: α has as many powers.
 const NONZERO_COUNT: usize = 255;
@@ -30,19 +30,17 @@ fn log_of(x: u8) -> u8
     LOGS[x as usize - 1]
 }
 
-// The least n for which α to the n takes one value to another, the difference of their logarithms modulo 255; 255 if there is none.
-#[tactic(auto, using(crate::proofs::LogLaws::same_exponent, crate::proofs::LogLaws::from_zero, crate::proofs::LogLaws::to_zero, crate::proofs::LogLaws::by_logs))]
-pub(crate) fn least_exponent(from: u8, to: u8) -> usize
-    ensures { LeastExponent from to result }
+// The least n for which α to the n takes one value to another, the difference of their logarithms modulo 255; none if no n does.
+#[tactic(auto, using(crate::proofs::LogLaws::same_exponent, crate::proofs::LogLaws::from_zero, crate::proofs::LogLaws::to_zero))]
+pub(crate) fn least_exponent(from: u8, to: u8) -> Option<usize>
+    ensures least { IfSome result (LeastExponent from to) }
+    ensures none { IfNone result (NoExponent from to) }
 {
     if from == to {
-        return 0;
+        return Some(0);
     }
-    if from == 0 {
-        return NONZERO_COUNT;
+    if from == 0 || to == 0 {
+        return None;
     }
-    if to == 0 {
-        return NONZERO_COUNT;
-    }
-    (log_of(to) as usize + NONZERO_COUNT - log_of(from) as usize) % NONZERO_COUNT
+    Some((log_of(to) as usize + NONZERO_COUNT - log_of(from) as usize) % NONZERO_COUNT)
 }

@@ -1,19 +1,18 @@
 // Mending a header: the multiple of (x + 1)(x + α) that differs from it in at most one place.
-ghost use Rattle.std.specs.Prelude.{◌≡◌, ℕ, ◌↔◌, List, length};
-ghost use Rattle.sectors.specs.Refusal.{beyond_mending};
+ghost use Rattle.std.specs.Prelude.{◌≡◌, ℕ, ◌↔◌, List, Ok, Err};
+ghost use Rattle.sectors.specs.Refusal.{refusal_of};
 ghost use Rattle.sectors.specs.Audit.{HeaderIn, header_at};
-ghost use Rattle.sectors.specs.Mend.{Mends, Mendable, BeyondMending, OneByteChanged, mended_to, mended_of, mend_of};
+ghost use Rattle.sectors.specs.Mend.{Mends, Mendable, BeyondMending, OneByteChanged, mended_of, mend_of, mended_by};
 
-use crate::bytes::copy_bytes;
-use crate::header::{HEADER_FORMAT, HEADER_SIZE, at_alpha, at_one};
+use crate::header::{HEADER_SIZE, at_alpha, at_one, header_of};
 use crate::log::least_exponent;
-use crate::refusal::{BEYOND_MENDING, FOREIGN_FORMAT, NO_HEADER, NO_SUCH_ENTRY};
-use crate::sector::{Lsn, contains, is_foreign, stored_part};
+use crate::refusal::Refusal;
+use crate::sector::{Image, Lsn};
 
 // The place of a header's last byte.
 const LAST_PLACE: usize = HEADER_SIZE - 1;
 
-// The header that a sector's mends to, or a refusal and zeros.
+// The header that a sector's mends to as C has it: 0 and its bytes, or a refusal and zeros.
 #[repr(C)]
 #[derive(Clone, Copy)]
 pub struct Mended {
@@ -21,52 +20,47 @@ pub struct Mended {
     pub header: [u8; HEADER_SIZE],
 }
 
-// Mends six bytes. If one is bad, their value at 1 is its change, and their value at α that change times α to the number of bytes behind it.
-fn mend_bytes(h: &[u8]) -> Mended
-    requires { length h.now ≡ 6 }
-    ensures { result ≡ mended_of h.now }
+// Mends a header. If one byte is bad, the value at 1 is its change, and the value at α that change times α to the number of bytes behind it.
+fn mend_bytes(h: &[u8; HEADER_SIZE]) -> Result<[u8; HEADER_SIZE], Refusal>
+    ensures answer { mended_by result ≡ mended_of h.now }
+    ensures mendable { (refusal_of result ≡ 0) ↔ Mendable h.now }
+    ensures mends { (g : List ℕ) → result ≡ Ok g → Mends h.now g }
+    ensures beyond { (result ≡ Err Refusal.BeyondMending) ↔ BeyondMending h.now }
+    ensures comes_back { (g : List ℕ) → OneByteChanged g h.now → result ≡ Ok g }
 {
     let change = at_one(h);
-    let behind = least_exponent(change, at_alpha(h));
-    if HEADER_SIZE <= behind {
-        return Mended {
-            refusal: BEYOND_MENDING,
-            header: [0u8; HEADER_SIZE],
-        };
+    match least_exponent(change, at_alpha(h)) {
+        Some(behind) if behind < HEADER_SIZE => {
+            let mut header = *h;
+            header[LAST_PLACE - behind] ^= change;
+            Ok(header)
+        }
+        _ => Err(Refusal::BeyondMending),
     }
-    let mut header = [0u8; HEADER_SIZE];
-    copy_bytes(h, &mut header, 0);
-    let place = LAST_PLACE - behind;
-    header[place] = h[place] ^ change;
-    Mended { refusal: 0, header }
 }
 
 // The header that a sector's mends to. The image is not written.
-pub fn mend(format: u32, image: &[u8], lsn: Lsn) -> Mended
-    ensures answer { result ≡ mend_of format image.now lsn.0 }
-    ensures mendable { (result.refusal ≡ 0) ↔ HeaderIn Mendable format image.now lsn.0 }
-    ensures mends { result.refusal ≡ 0 → Mends (header_at image.now lsn.0) result.header }
-    ensures beyond { (result.refusal ≡ beyond_mending) ↔ HeaderIn BeyondMending format image.now lsn.0 }
-    ensures comes_back { (g : List ℕ) → HeaderIn (OneByteChanged g) format image.now lsn.0 → result ≡ mended_to g }
+pub fn mend(image: Image, lsn: Lsn) -> Result<[u8; HEADER_SIZE], Refusal>
+    ensures answer { mended_by result ≡ mend_of image.entry.format image.entry.bytes.now lsn.0 }
+    ensures mendable { (refusal_of result ≡ 0) ↔ HeaderIn Mendable image.entry.format image.entry.bytes.now lsn.0 }
+    ensures mends { (g : List ℕ) → result ≡ Ok g → Mends (header_at image.entry.bytes.now lsn.0) g }
+    ensures beyond { (result ≡ Err Refusal.BeyondMending) ↔ HeaderIn BeyondMending image.entry.format image.entry.bytes.now lsn.0 }
+    ensures comes_back { (g : List ℕ) → HeaderIn (OneByteChanged g) image.entry.format image.entry.bytes.now lsn.0 → result ≡ Ok g }
 {
-    let zeros = [0u8; HEADER_SIZE];
-    if is_foreign(format) {
-        return Mended {
-            refusal: FOREIGN_FORMAT,
-            header: zeros,
-        };
+    mend_bytes(&header_of(image, lsn)?)
+}
+
+impl From<Result<[u8; HEADER_SIZE], Refusal>> for Mended {
+    ghost from_gives = { λ r m. m ≡ mended_by r };
+
+    #[tactic(auto, unfolding(crate::specs::Mend::mended_by, crate::specs::Mend::mended_to, crate::specs::Mend::unmended))]
+    fn from(mended: Result<[u8; HEADER_SIZE], Refusal>) -> Mended {
+        match mended {
+            Ok(header) => Mended { refusal: 0, header },
+            Err(refusal) => Mended {
+                refusal: refusal.into(),
+                header: [0; HEADER_SIZE],
+            },
+        }
     }
-    if format != HEADER_FORMAT {
-        return Mended {
-            refusal: NO_HEADER,
-            header: zeros,
-        };
-    }
-    if !contains(format, image.len(), lsn, 1) {
-        return Mended {
-            refusal: NO_SUCH_ENTRY,
-            header: zeros,
-        };
-    }
-    mend_bytes(stored_part(format, image, lsn.0 as usize, 0, HEADER_SIZE))
 }

@@ -1,11 +1,22 @@
-// The numbers by which a call is refused; 0 where it is not.
+// The refusals of calls on sectors.
+ghost use Rattle.std.specs.Prelude.{◌≡◌};
+ghost use Rattle.sectors.specs.Refusal.{number_of};
 
-pub const FOREIGN_FORMAT: u8 = 1;
+// What a call is refused by.
+#[derive(Clone, Copy, Debug, PartialEq, Eq)]
+pub enum Refusal {
+    ForeignFormat = 1,
+    ShortBuffer = 2,
+    NoSuchEntry = 8,
+    NoHeader = 11,
+    BeyondMending = 14,
+}
 
-pub const SHORT_BUFFER: u8 = 2;
+impl From<Refusal> for u8 {
+    ghost from_gives = { λ r n. n ≡ number_of r };
 
-pub const NO_SUCH_ENTRY: u8 = 8;
-
-pub const NO_HEADER: u8 = 11;
-
-pub const BEYOND_MENDING: u8 = 14;
+    #[tactic(auto, unfolding(crate::specs::Refusal::number_of))]
+    fn from(refusal: Refusal) -> u8 {
+        refusal as u8
+    }
+}

@@ -1,213 +1,156 @@
 // The records of an answer, all their numbers in order on a line each.
-use crate::numbers::{end_line, put_bytes, put_u8, put_u16, put_u32};
-use area::area::{Area, TableOrigin};
-use area::locale::{Locale, MAX_LOCALES};
-use area::text_places::{AREA_TEXTS, TRACK_TEXTS, TextPlace};
+use crate::numbers::{put, put_bytes};
+use area::area::Area;
+use area::locale::Locale;
+use area::text_places::TextPlace;
 use area::timecode::Timecode;
 use area::track::{Genre, Track, TrackTimes};
-use disc::master::{AreaPointer, DISC_TEXTS, Date, GENRES, MAX_DISC_LOCALES, MasterToc};
+use disc::master::{AreaPointer, Date, MasterToc};
 use std::io;
 use std::io::Write;
 use text::fixed::FixedText;
 
-fn put_fixed_text(out: &mut impl Write, text: FixedText) -> io::Result<()> {
-    let bytes = text.bytes;
-    put_u8(out, text.len)?;
-    put_bytes(out, &bytes)
+fn put_fixed_text(out: &mut impl Write, text: &FixedText) -> io::Result<()> {
+    put(out, text.len)?;
+    put_bytes(out, &text.bytes)
 }
 
-fn put_genre(out: &mut impl Write, genre: Genre) -> io::Result<()> {
-    put_u8(out, genre.category)?;
-    put_u8(out, genre.index)
+fn put_genre(out: &mut impl Write, genre: &Genre) -> io::Result<()> {
+    write!(out, " {} {}", genre.category, genre.index)
 }
 
-fn put_genres(out: &mut impl Write, genres: [Genre; GENRES]) -> io::Result<()> {
-    put_genre(out, genres[0])?;
-    put_genre(out, genres[1])?;
-    put_genre(out, genres[2])?;
-    put_genre(out, genres[3])
+fn put_genres(out: &mut impl Write, genres: &[Genre]) -> io::Result<()> {
+    for genre in genres {
+        put_genre(out, genre)?;
+    }
+    Ok(())
 }
 
-fn put_pointer(out: &mut impl Write, pointer: AreaPointer) -> io::Result<()> {
-    let toc1 = pointer.toc1_lsn;
-    let toc2 = pointer.toc2_lsn;
-    put_u32(out, toc1.0)?;
-    put_u32(out, toc2.0)?;
-    put_u16(out, pointer.toc_sectors)
+fn put_pointer(out: &mut impl Write, pointer: &AreaPointer) -> io::Result<()> {
+    write!(
+        out,
+        " {} {} {}",
+        pointer.toc1_lsn.0, pointer.toc2_lsn.0, pointer.toc_sectors
+    )
 }
 
-fn put_date(out: &mut impl Write, date: Date) -> io::Result<()> {
-    put_u16(out, date.year)?;
-    put_u8(out, date.month)?;
-    put_u8(out, date.day)
+fn put_date(out: &mut impl Write, date: &Date) -> io::Result<()> {
+    write!(out, " {} {} {}", date.year, date.month, date.day)
 }
 
-fn put_locale(out: &mut impl Write, locale: Locale) -> io::Result<()> {
-    let language = locale.language;
-    let bytes = language.bytes;
-    let code = locale.language_code;
-    put_u8(out, language.len)?;
-    put_bytes(out, &bytes)?;
-    put_bytes(out, &code)?;
-    put_u8(out, locale.charset)
-}
-
-fn put_disc_locales(out: &mut impl Write, locales: [Locale; MAX_DISC_LOCALES]) -> io::Result<()> {
+fn put_locales(out: &mut impl Write, locales: &[Locale]) -> io::Result<()> {
     for locale in locales {
-        put_locale(out, locale)?;
+        put(out, locale.language.len)?;
+        put_bytes(out, &locale.language.bytes)?;
+        put_bytes(out, &locale.language_code)?;
+        put(out, locale.charset)?;
     }
     Ok(())
 }
 
-fn put_area_locales(out: &mut impl Write, locales: [Locale; MAX_LOCALES]) -> io::Result<()> {
-    for locale in locales {
-        put_locale(out, locale)?;
-    }
-    Ok(())
-}
-
-// Writes how a text ended. Where it stands is not written: the Rust has no places.
-fn put_end(out: &mut impl Write, text: TextPlace) -> io::Result<()> {
-    put_u8(out, text.end)
-}
-
-fn put_disc_ends(out: &mut impl Write, texts: [TextPlace; DISC_TEXTS]) -> io::Result<()> {
+// Writes how texts ended. Where they stand is not written: the Rust has no places.
+fn put_ends(out: &mut impl Write, texts: &[TextPlace]) -> io::Result<()> {
     for text in texts {
-        put_end(out, text)?;
-    }
-    Ok(())
-}
-
-fn put_area_ends(out: &mut impl Write, texts: [TextPlace; AREA_TEXTS]) -> io::Result<()> {
-    for text in texts {
-        put_end(out, text)?;
-    }
-    Ok(())
-}
-
-fn put_track_ends(out: &mut impl Write, texts: [TextPlace; TRACK_TEXTS]) -> io::Result<()> {
-    for text in texts {
-        put_end(out, text)?;
+        put(out, text.end)?;
     }
     Ok(())
 }
 
 // What a master record has of the album.
-fn put_album(out: &mut impl Write, master: MasterToc) -> io::Result<()> {
-    let version = master.version;
-    let genres = master.album_genres;
-    put_u8(out, version.major)?;
-    put_u8(out, version.minor)?;
-    put_u16(out, master.album_set_size)?;
-    put_u16(out, master.album_sequence_number)?;
-    put_fixed_text(out, master.album_catalog_number)?;
-    put_fixed_text(out, master.album_catalog_number_stored)?;
-    put_genres(out, genres)
+fn put_album(out: &mut impl Write, master: &MasterToc) -> io::Result<()> {
+    put(out, master.version.major)?;
+    put(out, master.version.minor)?;
+    put(out, master.album_set_size)?;
+    put(out, master.album_sequence_number)?;
+    put_fixed_text(out, &master.album_catalog_number)?;
+    put_fixed_text(out, &master.album_catalog_number_stored)?;
+    put_genres(out, &master.album_genres)
 }
 
 // Writes the line of a master record.
-pub(crate) fn put_master(out: &mut impl Write, master: MasterToc) -> io::Result<()> {
-    let genres = master.disc_genres;
-    let locales = master.locales;
-    let texts = master.text;
-    out.write_all(b"master")?;
+pub(crate) fn put_master(out: &mut impl Write, master: &MasterToc) -> io::Result<()> {
+    write!(out, "master")?;
     put_album(out, master)?;
-    put_pointer(out, master.two_channel)?;
-    put_pointer(out, master.multichannel)?;
-    put_u8(out, master.disc_flags)?;
-    put_fixed_text(out, master.disc_catalog_number)?;
-    put_fixed_text(out, master.disc_catalog_number_stored)?;
-    put_genres(out, genres)?;
-    put_date(out, master.date)?;
-    put_u8(out, master.text_channel_count)?;
-    put_u8(out, master.locale_count)?;
-    put_disc_locales(out, locales)?;
-    put_u8(out, master.text_charset)?;
-    put_disc_ends(out, texts)?;
-    put_u8(out, master.manufacturer)?;
-    end_line(out)
+    put_pointer(out, &master.two_channel)?;
+    put_pointer(out, &master.multichannel)?;
+    put(out, master.disc_flags)?;
+    put_fixed_text(out, &master.disc_catalog_number)?;
+    put_fixed_text(out, &master.disc_catalog_number_stored)?;
+    put_genres(out, &master.disc_genres)?;
+    put_date(out, &master.date)?;
+    put(out, master.text_channel_count)?;
+    put(out, master.locale_count)?;
+    put_locales(out, &master.locales)?;
+    put(out, master.text_charset)?;
+    put_ends(out, &master.text)?;
+    put(out, master.manufacturer)?;
+    writeln!(out)
 }
 
-fn put_origin(out: &mut impl Write, origin: TableOrigin) -> io::Result<()> {
-    let lsn = origin.toc_lsn;
-    put_u8(out, origin.slot)?;
-    put_u32(out, lsn.0)?;
-    put_u16(out, origin.toc_sectors)
-}
-
-fn put_timecode(out: &mut impl Write, time: Timecode) -> io::Result<()> {
-    put_u8(out, time.minutes)?;
-    put_u8(out, time.seconds)?;
-    put_u8(out, time.frames)
+fn put_timecode(out: &mut impl Write, time: &Timecode) -> io::Result<()> {
+    write!(out, " {} {} {}", time.minutes, time.seconds, time.frames)
 }
 
 // What an area's record has of its table, and of its audio.
-fn put_format(out: &mut impl Write, area: Area) -> io::Result<()> {
-    let version = area.version;
-    put_u8(out, area.present)?;
-    put_origin(out, area.origin)?;
-    put_u8(out, area.kind)?;
-    put_u8(out, version.major)?;
-    put_u8(out, version.minor)?;
-    put_u32(out, area.max_byte_rate)?;
-    put_u8(out, area.sample_frequency_code)?;
-    put_u8(out, area.frame_format)
+fn put_format(out: &mut impl Write, area: &Area) -> io::Result<()> {
+    put(out, area.present)?;
+    put(out, area.origin.slot)?;
+    put(out, area.origin.toc_lsn.0)?;
+    put(out, area.origin.toc_sectors)?;
+    put(out, area.kind)?;
+    put(out, area.version.major)?;
+    put(out, area.version.minor)?;
+    put(out, area.max_byte_rate)?;
+    put(out, area.sample_frequency_code)?;
+    put(out, area.frame_format)
 }
 
-fn put_audio(out: &mut impl Write, area: Area) -> io::Result<()> {
-    let start = area.audio_start_lsn;
-    let end = area.audio_end_lsn;
-    put_u8(out, area.channel_count)?;
-    put_u8(out, area.area_config)?;
-    put_u8(out, area.max_available_channels)?;
-    put_u8(out, area.area_mute_flags)?;
-    put_u8(out, area.track_attribute)?;
-    put_timecode(out, area.playtime)?;
-    put_u8(out, area.track_offset)?;
-    put_u16(out, area.track_count)?;
-    put_u32(out, start.0)?;
-    put_u32(out, end.0)
+fn put_audio(out: &mut impl Write, area: &Area) -> io::Result<()> {
+    put(out, area.channel_count)?;
+    put(out, area.area_config)?;
+    put(out, area.max_available_channels)?;
+    put(out, area.area_mute_flags)?;
+    put(out, area.track_attribute)?;
+    put_timecode(out, &area.playtime)?;
+    put(out, area.track_offset)?;
+    put(out, area.track_count)?;
+    put(out, area.audio_start_lsn.0)?;
+    put(out, area.audio_end_lsn.0)
 }
 
 // Writes the line of an area's record.
-pub(crate) fn put_area(out: &mut impl Write, area: Area) -> io::Result<()> {
-    let locales = area.locales;
-    let texts = area.text;
-    out.write_all(b"area")?;
+pub(crate) fn put_area(out: &mut impl Write, area: &Area) -> io::Result<()> {
+    write!(out, "area")?;
     put_format(out, area)?;
     put_audio(out, area)?;
-    put_u8(out, area.text_channel_count)?;
-    put_u8(out, area.locale_count)?;
-    put_area_locales(out, locales)?;
-    put_u8(out, area.text_charset)?;
-    put_area_ends(out, texts)?;
-    end_line(out)
+    put(out, area.text_channel_count)?;
+    put(out, area.locale_count)?;
+    put_locales(out, &area.locales)?;
+    put(out, area.text_charset)?;
+    put_ends(out, &area.text)?;
+    writeln!(out)
 }
 
-fn put_times(out: &mut impl Write, times: TrackTimes) -> io::Result<()> {
-    let start = times.start_frame;
-    let duration = times.duration_frames;
-    put_u32(out, start.0)?;
-    put_u32(out, duration.0)?;
-    put_timecode(out, times.stored_start)?;
-    put_timecode(out, times.stored_duration)
+fn put_times(out: &mut impl Write, times: &TrackTimes) -> io::Result<()> {
+    put(out, times.start_frame.0)?;
+    put(out, times.duration_frames.0)?;
+    put_timecode(out, &times.stored_start)?;
+    put_timecode(out, &times.stored_duration)
 }
 
 // Writes the line of a track.
-pub(crate) fn put_track(out: &mut impl Write, track: Track) -> io::Result<()> {
-    let lsn = track.start_lsn;
-    let texts = track.text;
-    out.write_all(b"track")?;
-    put_u8(out, track.number)?;
-    put_u32(out, lsn.0)?;
-    put_u32(out, track.length_sectors)?;
-    put_times(out, track.times)?;
-    put_u8(out, track.start_flags)?;
-    put_u8(out, track.duration_flags)?;
-    put_u8(out, track.has_isrc)?;
-    put_fixed_text(out, track.isrc)?;
-    put_u8(out, track.has_genre)?;
-    put_genre(out, track.genre)?;
-    put_track_ends(out, texts)?;
-    end_line(out)
+pub(crate) fn put_track(out: &mut impl Write, track: &Track) -> io::Result<()> {
+    write!(out, "track")?;
+    put(out, track.number)?;
+    put(out, track.start_lsn.0)?;
+    put(out, track.length_sectors)?;
+    put_times(out, &track.times)?;
+    put(out, track.start_flags)?;
+    put(out, track.duration_flags)?;
+    put(out, track.has_isrc)?;
+    put_fixed_text(out, &track.isrc)?;
+    put(out, track.has_genre)?;
+    put_genre(out, &track.genre)?;
+    put_ends(out, &track.text)?;
+    writeln!(out)
 }

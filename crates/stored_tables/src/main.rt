@@ -1,8 +1,7 @@
 // The files that the arguments name, each a table, with their listings.
 #![tactic(auto)]
 
-ghost use Rattle.std.specs.Prelude.{◌≤◌, length, IfOk};
-
+use inputs::full::read_full;
 use listing_text::listing::{LISTING_PAGE, MAX_LISTED, list_table};
 use std::io::{BufWriter, Read, Write};
 use std::rt::Files;
@@ -13,20 +12,6 @@ const INPUT_BYTES: usize = MAX_LISTED + 1;
 
 // A longer argument counts as an empty one.
 const ARGUMENT_BYTES: usize = 4096;
-
-// Reads until the buffer is full or the file ends, and returns how many bytes it put at the buffer's start.
-fn read_full(file: &mut impl Read, buf: &mut [u8]) -> io::Result<usize>
-    ensures { IfOk result (λ n. n ≤ length buf.new) }
-{
-    let mut done = 0;
-    while done < buf.len() {
-        match file.read(&mut buf[done..])? {
-            0 => break,
-            n => done += n,
-        }
-    }
-    Ok(done)
-}
 
 // Writes the listing of the table in a file.
 fn list_file(out: &mut impl Write, file: &mut impl Read) -> io::Result<()> {
@@ -55,15 +40,12 @@ fn main(rt: HostRuntime) -> io::Result<()> {
     let mut out = BufWriter::new(rt.alloc(), rt.stdout())?;
     for argument in env::args(&rt)?.skip(1) {
         let name = argument.as_str();
-        list_argument(
-            &rt,
-            &mut out,
-            if name.len() > ARGUMENT_BYTES {
-                ""
-            } else {
-                name
-            },
-        )?;
+        let name = if name.len() > ARGUMENT_BYTES {
+            ""
+        } else {
+            name
+        };
+        list_argument(&rt, &mut out, name)?;
     }
     out.flush()
 }

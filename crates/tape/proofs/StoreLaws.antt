@@ -1,6 +1,6 @@
 -- Laws of the tape store: each way undoes the other. Both go by the pieces of one kind, which are `size` bytes of each sector from `offset` on.
 -- Assumes nothing.
-use Rattle.std.specs.Prelude.{ℕ, ◌+◌, ◌*◌, ◌≤◌, ◌<◌, ◌≡◌, length, drop}
+use Rattle.std.specs.Prelude.{ℕ, ◌+◌, ◌*◌, ◌≤◌, ◌<◌, ◌≡◌, Result, Ok, Err, OnOk, IfErr, length, drop}
 use Rattle.std.proofs.Math.Decide.{ℕ_discrete}
 use Rattle.std.proofs.Common.{mul-le-mul_left, mul-le-mul_right, ◌∙◌, length-drop}
 use native.Mathlib.Omega.{arith}
@@ -15,7 +15,8 @@ use Rattle.sectors.specs.FillLaws.{part_length, part_part}
 use Rattle.sectors.specs.Format.{sector_size}
 use Rattle.sectors.specs.Sector.{sector_count}
 use Rattle.sectors.proofs.SectorLaws.{raw2064_size, count_fits, count_most}
-use Rattle.tape.specs.Store.{head_size, tail_size, tail_offset, raw_size, sectors_in, blocks, piece_of, head_of, data_of, tail_of, gathered, piece_from, sector_from, scattered, lengths_refusal, gather_into, scatter_into, Restores}
+use Rattle.tape.specs.declared.store.UnequalLengths.{UnequalLengths}
+use Rattle.tape.specs.Store.{head_size, tail_size, tail_offset, raw_size, sectors_in, blocks, piece_of, head_of, data_of, tail_of, gathered, piece_from, sector_from, scattered, unequal_lengths, refusal_of, lengths_refusal, gather_into, scatter_into, Restores}
 use Rattle.tape.proofs.BlockLaws.{part_three, part_then, part_middle, blocks_length, block_at, blocks_same, blocks_part}
 
 -- whole sectors lie in the image
@@ -213,21 +214,47 @@ module _ (x old old' : List ℕ) (same : length x ≡ length old) (same' : lengt
       rw (eq-eqb (length x) (length old) same, eq-eqb (length (scattered n x)) (length old') (e ∙ same'))
       (ap (λ (m : ℕ). gathered (sector_count header_format m) (scattered n x)) e ∙ gather_scattered n x whole)
 
+-- ---- the number of an answer
+
+-- an answer is known by it
+pub refusal_tells : (a b : Result (Unit {0}) UnequalLengths) → refusal_of a ≡ refusal_of b → a ≡ b
+unfolding refusal_of
+refusal_tells (Ok x) (Ok y) e = refl
+refusal_tells (Ok x) (Err s) e = absurd (omega arith)
+refusal_tells (Err r) (Ok y) e = absurd (omega arith)
+refusal_tells (Err r) (Err s) e = refl
+
+-- it is 0, or the refusal's number
+pub number_is : (answer : Result (Unit {0}) UnequalLengths) (number : ℕ) → OnOk answer (number ≡ 0) → IfErr answer (λ refusal. number ≡ unequal_lengths)
+    → number ≡ refusal_of answer
+unfolding refusal_of
+number_is (Ok value) number none refused = none
+number_is (Err refusal) number none refused = refused
+
+pub none_refused : (answer : Result (Unit {0}) UnequalLengths) (number : ℕ) → number ≡ refusal_of answer → number ≡ 0 → answer ≡ Ok tt
+unfolding refusal_of
+none_refused answer number is none = refusal_tells answer (Ok tt) (sym is ∙ none)
+
 -- no refusal: the lengths are equal
-equal_lengths : (a b refusal : ℕ) → refusal ≡ lengths_refusal a b → refusal ≡ 0 → a ≡ b
+equal_lengths : (a b : ℕ) → 0 ≡ lengths_refusal a b → a ≡ b
 unfolding lengths_refusal
-equal_lengths a b refusal e none = go (ℕ_discrete a b)
+equal_lengths a b e = go (ℕ_discrete a b)
   where
     go : Dec (a ≡ b) → a ≡ b
     go (yes same) = same
-    go (no differ) = absurd (let f = rw (ne_eqb a b differ) at (sym none ∙ e) in omega arith)
+    go (no differ) = absurd (let f = rw (ne_eqb a b differ) at e in omega arith)
 
 -- so with no refusal the other call restores what was read
-module _ (x old written : List ℕ) (refusal : ℕ) (refused : refusal ≡ lengths_refusal (length x) (length old)) where
-  pub gather_restored : written ≡ gather_into x old → refusal ≡ 0 → Restores scatter_into x written
-  unfolding Restores
-  gather_restored is none old' same = rw is (way_back x old old' (equal_lengths (length x) (length old) refusal refused none) same)
+module _ (x old written : List ℕ) (answer : Result (Unit {0}) UnequalLengths) (refused : refusal_of answer ≡ lengths_refusal (length x) (length old))
+    (none : answer ≡ Ok tt) where
+  same_lengths : length x ≡ length old
+  unfolding refusal_of
+  same_lengths = equal_lengths (length x) (length old) (ap refusal_of (sym none) ∙ refused)
 
-  pub scatter_restored : written ≡ scatter_into x old → refusal ≡ 0 → Restores gather_into x written
+  pub gather_restored : written ≡ gather_into x old → Restores scatter_into x written
   unfolding Restores
-  scatter_restored is none old' same = rw is (way_forth x old old' (equal_lengths (length x) (length old) refusal refused none) same)
+  gather_restored is old' same = rw is (way_back x old old' same_lengths same)
+
+  pub scatter_restored : written ≡ scatter_into x old → Restores gather_into x written
+  unfolding Restores
+  scatter_restored is old' same = rw is (way_forth x old old' same_lengths same)

@@ -2,8 +2,7 @@
 use Prim.Native.Nat.{ℕ, ◌+◌, ◌*◌, ◌-◌, ◌≤◌, ◌<◌}
 use native.Mathlib.Numerals.{add-one}
 use native.Mathlib.Omega.{arith}
-use mathlib.Core.Path.{◌≡◌, refl, sym, ap, ◌∙◌}
-use mathlib.Core.Bool.{Bool, true, false}
+use mathlib.Core.Path.{◌≡◌, sym, ap, ◌∙◌}
 use mathlib.Core.List.{List, ◌++◌, append_assoc}
 use borrow.Author.Tests.{eq-eqb, ne_eqb}
 use lib.ListN.{length, drop, length-append, length-drop}
@@ -12,6 +11,8 @@ use Rattle.sectors.specs.Fill.{part, fill}
 use Rattle.sectors.specs.FillLaws.{fill_none}
 use Rattle.sectors.specs.Format.{sector_size}
 use Rattle.sectors.specs.Sector.{sector_count}
+use Rattle.tape.specs.declared.store.Way.{Way}
+use Rattle.tape.specs.declared.store.Way.TheVariants.{Gather, Scatter}
 use Rattle.tape.specs.Store.{head_size, tail_size, tail_offset, raw_size, sectors_in, blocks, piece_of, gathered, piece_from, sector_from, scattered, unequal_lengths, lengths_refusal, gather_into, scatter_into}
 use Rattle.tape.specs.Steps.{piece_copied, sector_copied, image_copied}
 use Rattle.tape.proofs.BlockLaws.{part_end, blocks_length}
@@ -28,20 +29,20 @@ gathered_to n x old k =
 abbrev scattered_to : ℕ → List ℕ → List ℕ → ℕ → List ℕ
 scattered_to n x old k = fill 0 (blocks (sector_from n x) k) old
 
-pub copied_to : Bool → ℕ → List ℕ → List ℕ → ℕ → List ℕ
-copied_to true = scattered_to
-copied_to false = gathered_to
+pub copied_to : Way → ℕ → List ℕ → List ℕ → ℕ → List ℕ
+copied_to Scatter = scattered_to
+copied_to Gather = gathered_to
 
-pub copy_start : (back : Bool) (n : ℕ) (x old : List ℕ) → old ≡ copied_to back n x old 0
+pub copy_start : (way : Way) (n : ℕ) (x old : List ℕ) → old ≡ copied_to way n x old 0
 unfolding copied_to blocks
-copy_start true n x old = sym (fill_none 0 old)
-copy_start false n x old = sym (fill_none (n * tail_offset) _ ∙ fill_none (n * head_size) _ ∙ fill_none 0 old)
+copy_start Scatter n x old = sym (fill_none 0 old)
+copy_start Gather n x old = sym (fill_none (n * tail_offset) _ ∙ fill_none (n * head_size) _ ∙ fill_none 0 old)
 
 module _ (n : ℕ) (x old : List ℕ) (count : n ≡ sector_count header_format (length x)) (as_long : length old ≡ length x) where
   whole : n * raw_size ≤ length x
   whole = whole_sectors n (length x) count
 
-  gather_turn : (k : ℕ) (out last : List ℕ) → k < n → out ≡ gathered_to n x old k → last ≡ sector_copied false n k x out
+  gather_turn : (k : ℕ) (out last : List ℕ) → k < n → out ≡ gathered_to n x old k → last ≡ sector_copied Gather n k x out
       → last ≡ gathered_to n x old (k + 1)
   unfolding blocks sector_copied piece_copied
   gather_turn k out last more e f =
@@ -57,7 +58,7 @@ module _ (n : ℕ) (x old : List ℕ) (count : n ≡ sector_count header_format 
       ∙ three_more (blocks h k) (h k) (blocks d k) (d k) (blocks t k) (t k) old (n * head_size) (n * tail_offset) (omega arith) (omega arith) (omega arith)
       ∙ rw add-one
 
-  scatter_turn : (k : ℕ) (out last : List ℕ) → k < n → out ≡ scattered_to n x old k → last ≡ sector_copied true n k x out
+  scatter_turn : (k : ℕ) (out last : List ℕ) → k < n → out ≡ scattered_to n x old k → last ≡ sector_copied Scatter n k x out
       → last ≡ scattered_to n x old (k + 1)
   unfolding blocks sector_copied piece_copied sector_from
   scatter_turn k out last more e f =
@@ -78,11 +79,11 @@ module _ (n : ℕ) (x old : List ℕ) (count : n ≡ sector_count header_format 
       ∙ ap (λ (l : List ℕ). fill 0 l old) (append_assoc (s ++ h) d t ∙ append_assoc s h (d ++ t))
       ∙ rw add-one
 
-  pub copy_turn : (back : Bool) (k : ℕ) (out last : List ℕ) → k < n → out ≡ copied_to back n x old k → last ≡ sector_copied back n k x out
-      → last ≡ copied_to back n x old (k + 1)
+  pub copy_turn : (way : Way) (k : ℕ) (out last : List ℕ) → k < n → out ≡ copied_to way n x old k → last ≡ sector_copied way n k x out
+      → last ≡ copied_to way n x old (k + 1)
   unfolding copied_to
-  copy_turn true = scatter_turn
-  copy_turn false = gather_turn
+  copy_turn Scatter = scatter_turn
+  copy_turn Gather = gather_turn
 
   -- ---- the rest
 
@@ -115,16 +116,25 @@ module _ (n : ℕ) (x old : List ℕ) (count : n ≡ sector_count header_format 
   unfolding scattered
   scatter_end out last e f = rest_behind (blocks (sector_from n x) n) last (sectors_length n x whole) (f ∙ ap rest_filled e)
 
-  -- ---- the answer
+  pub copy_end : (way : Way) (out last : List ℕ) → out ≡ copied_to way n x old n → last ≡ rest_filled out → last ≡ image_copied way x old
+  unfolding copied_to image_copied scatter_into gather_into sectors_in
+  copy_end Scatter out last e f = rw (eq-eqb (length x) (length old) (sym as_long), ← count) (scatter_end out last e f)
+  copy_end Gather out last e f = rw (eq-eqb (length x) (length old) (sym as_long), ← count) (gather_end out last e f)
 
-  pub accepts : (back : Bool) (k : ℕ) (out last : List ℕ) → k ≡ n → out ≡ copied_to back n x old k → last ≡ rest_filled out
-      → (0 ≡ lengths_refusal (length x) (length old)) × (last ≡ image_copied back x old)
-  unfolding copied_to lengths_refusal image_copied scatter_into gather_into sectors_in
-  accepts true k out last all e f = rw (eq-eqb (length x) (length old) (sym as_long), ← count) (refl, scatter_end out last (rw all at e) f)
-  accepts false k out last all e f = rw (eq-eqb (length x) (length old) (sym as_long), ← count) (refl, gather_end out last (rw all at e) f)
+-- ---- the answer
 
-pub refuses : (x old : List ℕ) → (length old ≡ length x → ⊥) → (back : Bool)
-    → (unequal_lengths ≡ lengths_refusal (length x) (length old)) × (old ≡ image_copied back x old)
-unfolding lengths_refusal image_copied scatter_into gather_into
-refuses x old differ true = rw (ne_eqb (length x) (length old) (λ e. differ (sym e))) (refl, refl)
-refuses x old differ false = rw (ne_eqb (length x) (length old) (λ e. differ (sym e))) (refl, refl)
+pub accepted : (read written : ℕ) → written ≡ read → 0 ≡ lengths_refusal read written
+unfolding lengths_refusal
+accepted read written same = rw (eq-eqb read written (sym same))
+
+pub refused : (read written : ℕ) → (written ≡ read → ⊥) → unequal_lengths ≡ lengths_refusal read written
+unfolding lengths_refusal
+refused read written differ = rw (ne_eqb read written (λ e. differ (sym e)))
+
+pub kept : (x old : List ℕ) → (length old ≡ length x → ⊥) → (way : Way) → old ≡ image_copied way x old
+unfolding image_copied scatter_into gather_into
+kept x old differ Scatter = rw (ne_eqb (length x) (length old) (λ e. differ (sym e)))
+kept x old differ Gather = rw (ne_eqb (length x) (length old) (λ e. differ (sym e)))
+
+-- the turns of a copy, and its answers
+pub ruleset copying = (copy_start, copy_turn, copy_end, accepted, refused, kept)

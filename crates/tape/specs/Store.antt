@@ -1,9 +1,10 @@
 -- "Headers gathered for the tape store." (02, item 13.) Assumes nothing.
-use Rattle.std.specs.Prelude.{◌≡◌, ℕ, zero, suc, ◌+◌, ◌*◌, cond, List, [], ◌++◌, eqb, length, drop}
+use Rattle.std.specs.Prelude.{◌≡◌, ℕ, zero, suc, ◌+◌, ◌*◌, cond, List, [], ◌++◌, Result, Ok, Err, eqb, length, drop}
 use Rattle.sectors.specs.Audit.{header_format}
 use Rattle.sectors.specs.Fill.{part}
 use Rattle.sectors.specs.Format.{sector_size}
 use Rattle.sectors.specs.Sector.{sector_count}
+use Rattle.tape.specs.declared.store.UnequalLengths.{UnequalLengths}
 
 -- "12-byte heads, then all data, then all 4-byte tails": what a stored sector is made of
 abbrev pub head_size : ℕ
@@ -69,6 +70,11 @@ scattered n bytes = blocks (sector_from n bytes) n ++ drop (n * raw_size) bytes
 -- "20, unequal lengths"
 abbrev pub unequal_lengths : ℕ
 unequal_lengths = 20
+
+-- the number of an answer, 0 for no refusal
+unfoldable pub refusal_of : Result (Unit {0}) UnequalLengths → ℕ
+refusal_of (Ok value) = 0
+refusal_of (Err refusal) = unequal_lengths
 
 -- "The two lent buffers are of equal length.": the refusal, 0 for none
 unfoldable pub lengths_refusal : ℕ → ℕ → ℕ

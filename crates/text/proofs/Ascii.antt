@@ -1,62 +1,60 @@
--- ASCII strings: found by a scan, and as long as their text. Assumes nothing.
-use mathlib.Core.Path.{◌≡◌, refl, sym, ap, ◌∙◌}
-use mathlib.Core.Bool.{Bool, true, false, cond, ◌&&◌, and-eq-true_iff, and_assoc, and-true}
-use mathlib.Core.List.{List, [], ◌∷◌, ◌++◌, flat_map}
-use Prim.Native.Nat.{ℕ, ◌+◌, ◌<◌}
-use native.Mathlib.Omega.{arith}
-use borrow.Author.Tests.{ltb-true}
-use lib.Dec.{ltb}
-use lib.ListN.{length, get_or, take, length-append}
+-- ASCII strings: found by a scan, and their own text. Assumes nothing.
+use Rattle.std.specs.Prelude.{◌≡◌, ℕ, ◌<◌, List, [], ◌∷◌, ltb, length, get_or, take, take_while, true, false, Bool, ◌+◌, cond, not}
+use mathlib.Core.List.{flat_map}
+use Rattle.std.specs.Str.{IsAscii}
+use Rattle.std.specs.List.{prefix_len}
+use Rattle.std.proofs.Common.{refl, sym, ap, suc, arith, length-append, ltb-true, ltb-false}
+use Rattle.std.proofs.Math.Bool.{and-eq-true_iff}
+use Rattle.std.proofs.lemmas.List.{get_or-take, get_or_past}
+use Rattle.std.proofs.lemmas.List.Folds.{length-prefix_len}
+use Rattle.std.proofs.lemmas.List.Sums.{prefix_len_is, prefix_len-le-length, prefix_len_passes}
 use Rattle.text.specs.Utf8.{utf8, blanked, encoded}
-use Rattle.text.specs.Utf8Laws.{utf8_one, blanked_below}
-use Rattle.text.specs.While.{take_while}
+use Rattle.text.specs.Utf8Laws.{utf8_one, blanked_below, latin1_size}
 use Rattle.text.specs.String.{nonzero, until_zero}
 use Rattle.text.proofs.StringLaws.{eq_nonzero}
-use Rattle.text.specs.Ascii.{is_ascii, is_stored_ascii}
-use Rattle.text.proofs.Writing.{take_next}
+use Rattle.text.specs.Ascii.{is_stored_ascii}
 
--- an ASCII string is as long as its text
-pub ascii_length : (points : List ℕ) → is_ascii points ≡ true → length (encoded points) ≡ length points
-unfolding encoded flat_map is_ascii
-ascii_length [] e = refl
-ascii_length (x ∷ xs) e =
-    let both = (and-eq-true_iff (ltb x 0x80) (is_ascii xs)).0 e in
-    let size = ap length (utf8_one (blanked x) (blanked_below x 0x80 (ltb-true x 0x80 both.0) (omega arith))) in
+-- the text of an ASCII string is as long as the string
+pub ascii_length : (points : List ℕ) → IsAscii points → length (encoded points) ≡ length points
+unfolding encoded flat_map
+ascii_length [] small = refl
+ascii_length (x ∷ xs) small =
+    let size = ap length (utf8_one (blanked x) (blanked_below x 0x80 (small 0) (omega arith))) in
     let sum = length-append (utf8 (blanked x)) (encoded xs) in
-    omega (arith, ascii_length xs both.1)
+    omega (arith, ascii_length xs (λ i. small (suc i)))
 
--- a byte more is looked at
-pub ascii_more : (l : List ℕ) (i : ℕ) → i < length l → is_ascii (take (i + 1) l) ≡ (is_ascii (take i l) && ltb (get_or l i 0) 0x80)
-unfolding is_ascii
-ascii_more l i h = ap is_ascii (take_next l i h) ∙ snoc (take i l) (get_or l i 0)
+-- a Latin-1 byte has a byte of text, and one more if it is not ASCII
+pub latin1_more : (byte : ℕ) → byte < 256 → length (utf8 (blanked byte)) ≡ 1 + cond (not (ltb byte 0x80)) 1 0
+latin1_more byte small = go (ltb byte 0x80) refl
   where
-    snoc : (l : List ℕ) (x : ℕ) → is_ascii (l ++ (x ∷ [])) ≡ (is_ascii l && ltb x 0x80)
-    snoc [] x = and-true (ltb x 0x80)
-    snoc (y ∷ ys) x = rw (snoc ys x) (sym (and_assoc (ltb y 0x80) (is_ascii ys) (ltb x 0x80)))
+    go : (t : Bool) → ltb byte 0x80 ≡ t → length (utf8 (blanked byte)) ≡ 1 + cond (not t) 1 0
+    go true e = let low = ltb-true byte 0x80 e in omega (arith, latin1_size byte small)
+    go false e = let high = ltb-false byte 0x80 e in omega (arith, latin1_size byte small)
 
--- what stands before the first byte that is zero or not ASCII is ASCII
-pub stored_ascii : (l : List ℕ) → is_ascii (take_while is_stored_ascii l) ≡ true
-unfolding is_ascii is_stored_ascii take_while
-stored_ascii [] = refl
-stored_ascii (x ∷ xs) = go (is_stored_ascii x) refl (stored_ascii xs)
-  where
-    rest : List ℕ
-    rest = take_while is_stored_ascii xs
+module _ (l : List ℕ) where
+  -- a byte that stands before the first that is zero or not ASCII
+  stored_byte : (i : ℕ) → i < prefix_len is_stored_ascii l → (nonzero (get_or l i 0) ≡ true) × (ltb (get_or l i 0) 0x80 ≡ true)
+  unfolding is_stored_ascii
+  stored_byte i h = (and-eq-true_iff (nonzero (get_or l i 0)) (ltb (get_or l i 0) 0x80)).0 (prefix_len_passes is_stored_ascii l i 0 h)
 
-    go : (t : Bool) → is_stored_ascii x ≡ t → is_ascii rest ≡ true → is_ascii (cond t (x ∷ rest) []) ≡ true
-    go true e r = (and-eq-true_iff (ltb x 0x80) (is_ascii rest)).1 (((and-eq-true_iff (nonzero x) (ltb x 0x80)).0 e).1, r)
-    go false e r = refl
+  -- what stands before it is ASCII
+  pub stored_ascii : IsAscii (take_while is_stored_ascii l)
+  stored_ascii i = go (ltb i (prefix_len is_stored_ascii l)) refl
+    where
+      n : ℕ
+      n = prefix_len is_stored_ascii l
 
--- where a zero byte or the end follows, it is all that stands before the first zero byte
-pub stored_until : (l : List ℕ) → get_or l (length (take_while is_stored_ascii l)) 0 ≡ 0 → take_while is_stored_ascii l ≡ until_zero l
-unfolding is_stored_ascii take_while until_zero
-stored_until [] z = refl
-stored_until (x ∷ xs) z = go (is_stored_ascii x) refl z (stored_until xs)
-  where
-    rest : List ℕ
-    rest = take_while is_stored_ascii xs
+      go : (t : Bool) → ltb i n ≡ t → get_or (take n l) i 0 < 128
+      go true e =
+          let inside : i < n = ltb-true i n e in
+          rw (get_or-take n l i 0 inside) (ltb-true (get_or l i 0) 0x80 (stored_byte i inside).1)
+      go false e = rw (get_or_past (take n l) i 0 (omega (arith, length-prefix_len is_stored_ascii l, ltb-false i n e))) (omega arith)
 
-    go : (t : Bool) → is_stored_ascii x ≡ t → get_or (x ∷ xs) (length (cond t (x ∷ rest) [])) 0 ≡ 0 → (get_or xs (length rest) 0 ≡ 0 → rest ≡ take_while nonzero xs)
-        → cond t (x ∷ rest) [] ≡ take_while nonzero (x ∷ xs)
-    go true e z r = simp ((and-eq-true_iff (nonzero x) (ltb x 0x80)).0 e).0 (ap (λ (l : List ℕ). x ∷ l) (r z))
-    go false e z r = simp (eq_nonzero x z)
+  -- where a zero byte or the end follows, it is all that stands before the first zero byte
+  pub stored_until : get_or l (length (take_while is_stored_ascii l)) 0 ≡ 0 → take_while is_stored_ascii l ≡ until_zero l
+  unfolding until_zero
+  stored_until z =
+      let n = prefix_len is_stored_ascii l in
+      let zero = rw (length-prefix_len is_stored_ascii l) at z in
+      ap (λ (k : ℕ). take k l)
+      (sym (prefix_len_is nonzero l n 0 (prefix_len-le-length is_stored_ascii l) (λ i h. (stored_byte i h).0) (λ h. eq_nonzero (get_or l n 0) zero)))

@@ -10,8 +10,10 @@ use Rattle.sectors.specs.Fill.{fill}
 use Rattle.sectors.specs.FillLaws.{fill_none, length_fill}
 use Rattle.text.specs.Refusal.{set_not_held, short_page, bad_mapping}
 use Rattle.text.specs.String.{present}
-use Rattle.text.specs.Charset.{set_of, is_mapped, latin1, charset_of}
-use Rattle.text.specs.CharsetLaws.{charset_mapped, latin1_unmapped, not_latin1_mapped}
+use Rattle.text.specs.Charset.{set_of, is_mapped, charset_of, set_number}
+use Rattle.text.specs.CharsetLaws.{charset_mapped, latin1_unmapped, not_latin1_mapped, latin1_number, latin1_alone}
+use Rattle.text.specs.declared.charset.CharacterSet.{CharacterSet}
+use Rattle.text.specs.declared.charset.CharacterSet.TheVariants as set
 use Rattle.text.specs.Mapping.{all_points, is_mapping}
 use Rattle.text.specs.Mapped.{mapped_points}
 use Rattle.text.proofs.MappedLaws.{bytes_sound, text_most, text_some, mapped_sound}
@@ -127,16 +129,6 @@ module _ (bytes : List ℕ) (code : ℕ) (words : List ℕ) where
       go [] = refl
       go (x ∷ xs) = simp (lt-ltb 0 (length (x ∷ xs)) (omega arith), e)
 
-  -- both by the set that the code names
-  module _ {set : ℕ} (named : set ≡ charset_of code) where
-    pub points_other : (set ≡ latin1 → ⊥) → points_of bytes code words ≡ unless_absent bytes (mapped_of words set bytes)
-    points_other other =
-        let mapped = not_latin1_mapped code (λ z. other (named ∙ z)) in
-        points_by_set mapped ∙ ap (λ (n : ℕ). unless_absent bytes (mapped_of words n bytes)) (sym (charset_mapped code mapped) ∙ sym named)
-
-    pub points_held : set ≡ latin1 → points_of bytes code words ≡ gives bytes
-    points_held is = points_latin1 (latin1_unmapped code (sym named ∙ is))
-
   -- the answer and the page are those of what the string gives
   module _ {d : Decoded} (e : points_of bytes code words ≡ d) where
     pub decode_by : (size : ℕ) → decode_of bytes code words size ≡ answer_in size d
@@ -146,6 +138,23 @@ module _ (bytes : List ℕ) (code : ℕ) (words : List ℕ) where
     pub into_by : (page : List ℕ) → decode_into bytes code words page ≡ page_with d page
     unfolding decode_into
     into_by page = ap (λ (x : Decoded). page_with x page) e
+
+  -- both by the set that the code names
+  module _ {s : CharacterSet} (named : set_number s ≡ charset_of code) where
+    points_other : (s ≡ set.Latin1 → ⊥) → points_of bytes code words ≡ unless_absent bytes (mapped_of words (set_number s) bytes)
+    points_other other =
+        let mapped = not_latin1_mapped code (λ z. other (latin1_alone s (named ∙ z))) in
+        points_by_set mapped ∙ ap (λ (n : ℕ). unless_absent bytes (mapped_of words n bytes)) (sym (charset_mapped code mapped) ∙ sym named)
+
+    -- so what is decoded by the mapping is what decoding gives
+    pub by_mapping_named : (s ≡ set.Latin1 → ⊥) → (page : List ℕ) {answer : DecodeAnswer} {last : List ℕ}
+        → answer ≡ answer_in (length page) (unless_absent bytes (mapped_of words (set_number s) bytes))
+        → last ≡ page_with (unless_absent bytes (mapped_of words (set_number s) bytes)) page
+        → (answer ≡ decode_of bytes code words (length page)) × (last ≡ decode_into bytes code words page)
+    by_mapping_named other page a l = let e = points_other other in (a ∙ sym (decode_by e (length page)), l ∙ sym (into_by e page))
+
+    pub points_held : s ≡ set.Latin1 → points_of bytes code words ≡ gives bytes
+    points_held is = points_latin1 (latin1_unmapped code (sym named ∙ ap set_number is ∙ latin1_number))
 
   -- what is refused answers its number, and leaves the page
   module _ (number : ℕ) (e : points_of bytes code words ≡ refused number) where

@@ -1,7 +1,8 @@
 -- Laws of stored strings. Assumes nothing.
-use Rattle.std.specs.Prelude.{◌≡◌, refl, Bool, true, false, cond, ℕ, suc, ◌+◌, ◌-◌, ◌≤◌, ◌<◌, eqb, ltb, take}
+use Rattle.std.specs.Prelude.{◌≡◌, refl, Bool, true, false, cond, ℕ, ◌+◌, ◌-◌, ◌≤◌, ◌<◌, eqb, ltb, take}
+use Rattle.std.specs.List.{prefix_len}
 use Rattle.std.proofs.Math.Path.{sym, ap}
-use Rattle.std.proofs.Common.{subst, ◌∙◌, add-zero, arith, take_all}
+use Rattle.std.proofs.Common.{subst, ◌∙◌, add-zero, arith, length-take, take_all}
 use Rattle.std.proofs.Math.Bool.{not}
 use mathlib.Core.List.{List, [], ◌∷◌}
 use Rattle.std.proofs.Math.Decide.{ℕ_discrete}
@@ -9,9 +10,10 @@ use borrow.Author.Tests.{eqb-true, eqb-false, eq-eqb, ne_eqb, not-true, not-fals
 use Rattle.std.proofs.Math.ListN.{length, get_or, get_or-eq_default}
 use Rattle.sectors.specs.Fill.{part}
 use Rattle.sectors.specs.FillLaws.{part_past, part_size, part_at, take_part}
-use Rattle.text.specs.While.{take_while}
 use Rattle.text.specs.WhileLaws.{front_taken, while_front, while_length, while_passes, while_stops}
-use Rattle.text.specs.String.{nonzero, until_zero, max_string_bytes, string_at, ended_byZero_byte, ended_byMax_bytes, ended_byTable_end, end_by, end_of, present, placed_string}
+use Rattle.text.specs.String.{nonzero, until_zero, max_string_bytes, string_at, ended_byZero_byte, ended_byMax_bytes, ended_byTable_end, end_number, end_by, end_of, present, placed_string}
+use Rattle.text.specs.declared.string.StringEnd.{StringEnd}
+use Rattle.text.specs.declared.string.StringEnd.TheVariants as end
 
 module _ (b : ℕ) where
   -- a byte that passes the test is not zero
@@ -45,7 +47,7 @@ absent_empty bytes e = sym (take_all 0 bytes (ltb-false 0 (length bytes) (sym (p
 
 -- of no bytes there are none
 pub until_none : until_zero [] ≡ []
-unfolding until_zero take_while
+unfolding until_zero
 until_none = refl
 
 -- the bytes before the first zero stand at the start
@@ -74,12 +76,15 @@ until_zero_lem l h = nonzero_false _ (while_stops nonzero l 0 h)
 
 -- a byte stands before the first zero exactly when the first byte is not zero (of no bytes the first is 0)
 pub until_present : (l : List ℕ) → present (until_zero l) ≡ nonzero (get_or l 0 0)
-unfolding present until_zero take_while
+unfolding present until_zero
 until_present [] = sym (eq_nonzero 0 refl)
 until_present (x ∷ xs) = go (nonzero x)
   where
-    go : (t : Bool) → ltb 0 (length (cond t (x ∷ take_while nonzero xs) [])) ≡ t
-    go true = lt-ltb 0 (suc (length (take_while nonzero xs))) (omega arith)
+    first : Bool → ℕ
+    first t = cond t (1 + prefix_len nonzero xs) 0
+
+    go : (t : Bool) → ltb 0 (length (take (first t) (x ∷ xs))) ≡ t
+    go true = lt-ltb 0 (length (take (first true) (x ∷ xs))) (omega (arith, length-take (first true) (x ∷ xs)))
     go false = refl
 
 module _ (table : List ℕ) (place : ℕ) where
@@ -158,6 +163,19 @@ module _ (table : List ℕ) (place : ℕ) where
       go false e = placed_there (eqb-false place 0 e) ∙ string_past h
 
 -- ---- how a string ended
+
+-- an end is known by its number
+end_from : ℕ → StringEnd
+end_from n = cond (eqb n ended_byZero_byte) end.ZeroByte (cond (eqb n ended_byMax_bytes) end.MaxBytes end.TableEnd)
+
+end_again : (e : StringEnd) → end_from (end_number e) ≡ e
+unfolding end_number end_from
+end_again end.ZeroByte = refl
+end_again end.MaxBytes = refl
+end_again end.TableEnd = refl
+
+pub end_tells : (e f : StringEnd) → end_number e ≡ end_number f → e ≡ f
+end_tells e f same = sym (end_again e) ∙ ap end_from same ∙ end_again f
 
 -- of a string of so many bytes at a place of a table of so many: 4,096 are asked first
 module _ (size place len : ℕ) where

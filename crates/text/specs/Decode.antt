@@ -1,13 +1,14 @@
 -- Decoding a string into a lent page (01, "Text" and "What the desk gets back"), those of sets 3 to 6 by a lent mapping (02, item 1). Assumes nothing.
-use Rattle.std.specs.Prelude.{ℕ, cond, List, [], leb, eqb, length}
+use Rattle.std.specs.Prelude.{ℕ, cond, List, [], leb, eqb, length, Result, Ok, Err}
 use Rattle.sectors.specs.Fill.{fill}
-use Rattle.text.specs.Refusal.{set_not_held, short_page, bad_mapping}
+use Rattle.text.specs.Refusal.{set_not_held, short_page, bad_mapping, number_of}
 use Rattle.text.specs.String.{present}
 use Rattle.text.specs.Charset.{set_of, is_mapped}
 use Rattle.text.specs.Mapping.{is_mapping}
 use Rattle.text.specs.Mapped.{mapped_points}
 use Rattle.text.specs.Utf8.{encoded}
 use Rattle.text.specs.declared.decode.DecodeAnswer.{DecodeAnswer}
+use Rattle.text.specs.declared.decode.DecodeRefusal.{DecodeRefusal}
 
 -- What a string gives, however long the page: a refusal, or its code points.
 pub data Decoded : Type 0 where
@@ -38,6 +39,11 @@ refusing number = record { refusal = number; len = 0 }
 
 unfoldable pub giving : ℕ → DecodeAnswer
 giving n = record { refusal = 0; len = n }
+
+-- "A refusal returns its number": this paper's number and values for each case of what decoding answers
+unfoldable pub answer_by : Result ℕ DecodeRefusal → DecodeAnswer
+answer_by (Ok n) = giving n
+answer_by (Err refusal) = refusing (number_of refusal)
 
 -- "10 | short page | decoded text longer than the page lent": the answer in a page of so many bytes; 10 only if nothing else is refused
 unfoldable pub answer_in : ℕ → Decoded → DecodeAnswer

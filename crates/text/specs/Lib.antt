@@ -6,9 +6,8 @@ pub mod Charset
 pub mod Ascii
 pub mod Utf8
 pub mod Mapping
-pub mod Parts
 pub mod Mapped
-pub mod Element
+pub mod Points
 pub mod Decode
 pub mod White
 pub mod Fixed
@@ -17,7 +16,6 @@ pub mod CharsetLaws
 pub mod LanguageLaws
 pub mod MappingLaws
 pub mod PaddedLaws
-pub mod PartsLaws
 pub mod Utf8Laws
 pub mod WhileLaws
 pub mod WhiteLaws

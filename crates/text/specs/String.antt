@@ -1,7 +1,8 @@
 -- Stored strings (01, "Text"), how they end (02, item 5), and those that a record places in its table (01, "Area"). Assumes nothing.
-use Rattle.std.specs.Prelude.{ℕ, ◌+◌, min, Bool, cond, not, List, [], eqb, ltb, length}
+use Rattle.std.specs.Prelude.{ℕ, ◌+◌, min, Bool, cond, not, List, [], eqb, ltb, length, take_while}
 use Rattle.sectors.specs.Fill.{part}
-use Rattle.text.specs.While.{take_while}
+use Rattle.text.specs.declared.string.StringEnd.{StringEnd}
+use Rattle.text.specs.declared.string.StringEnd.TheVariants as end
 
 -- a byte that is no "zero byte"
 unfoldable pub nonzero : ℕ → Bool
@@ -33,6 +34,11 @@ ended_byMax_bytes = 2
 
 abbrev pub ended_byTable_end : ℕ
 ended_byTable_end = 3
+
+unfoldable pub end_number : StringEnd → ℕ
+end_number end.ZeroByte = ended_byZero_byte
+end_number end.MaxBytes = ended_byMax_bytes
+end_number end.TableEnd = ended_byTable_end
 
 -- "Where 4,096 bytes reach just to the end of the table or to a zero byte, it says 4,096 bytes.": that is asked first. In a table of so many bytes, of
 -- the string at a place that has so many

@@ -1,8 +1,8 @@
 -- Laws of white space at the ends of a text: what trimming takes away, and what it leaves. Assumes nothing.
-use Rattle.std.specs.Prelude.{ℕ, ◌-◌, ◌≤◌, ◌<◌, ◌≡◌, false, List, ◌++◌, length, get_or}
+use Rattle.std.specs.Prelude.{ℕ, ◌-◌, ◌≤◌, ◌<◌, ◌≡◌, false, List, ◌++◌, length, get_or, take_while}
 use Rattle.std.proofs.Common.{arith, sym, ◌∙◌, ap}
 use Rattle.std.proofs.Math.ListN.{get_or-append}
-use Rattle.text.specs.While.{take_while, drop_while, drop_while_end}
+use Rattle.text.specs.While.{drop_while, drop_while_end}
 use Rattle.text.specs.WhileLaws.{Passing, take_drop_while, take_while_passing, drop_while_length, drop_while_starts, CutTo, drop_while_end_cut, drop_while_end_length}
 use Rattle.text.specs.White.{is_white, trimmed}
 

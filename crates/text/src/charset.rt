@@ -1,15 +1,35 @@
 // Character sets, by the code that a table stores.
 ghost use Rattle.std.specs.Prelude.{◌≡◌};
-ghost use Rattle.text.specs.Charset.{charset_of};
+ghost use Rattle.text.specs.Charset.{set_number, charset_of};
 
-// The set of every code that names none of the sets 3 to 6.
-pub const LATIN_1: u8 = 0;
+#[derive(Clone, Copy, Debug, PartialEq, Eq)]
+pub enum CharacterSet {
+    Latin1 = 0,
+    ShiftJisX0213 = 3,
+    EucKr = 4,
+    EucCn = 5,
+    Big5 = 6,
+}
 
-// The set of a code: 3 to 6, or Latin-1.
-#[tactic(auto, unfolding(crate::specs::Charset::charset_of, crate::specs::Charset::set_of, crate::specs::Charset::is_mapped))]
-pub fn charset(code: u8) -> u8
-    ensures { result ≡ charset_of code }
+impl From<CharacterSet> for u8 {
+    ghost from_gives = { λ s n. n ≡ set_number s };
+
+    #[tactic(auto, unfolding(crate::specs::Charset::set_number))]
+    fn from(set: CharacterSet) -> u8 {
+        set as u8
+    }
+}
+
+// The set that a code names: Latin-1 where it names none of the others.
+#[tactic(auto, unfolding(crate::specs::Charset::set_number, crate::specs::Charset::charset_of, crate::specs::Charset::set_of, crate::specs::Charset::is_mapped))]
+pub fn charset(code: u8) -> CharacterSet
+    ensures { set_number result ≡ charset_of code }
 {
-    let n = code & 7;
-    if (3 <= n) & (n <= 6) { n } else { LATIN_1 }
+    match code & 7 {
+        3 => CharacterSet::ShiftJisX0213,
+        4 => CharacterSet::EucKr,
+        5 => CharacterSet::EucCn,
+        6 => CharacterSet::Big5,
+        _ => CharacterSet::Latin1,
+    }
 }

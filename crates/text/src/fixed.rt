@@ -1,18 +1,17 @@
 // Fixed text fields: at most 16 bytes, up to a zero byte.
 ghost use Rattle.std.specs.Prelude.{◌≡◌, ◌≤◌, length};
-ghost use Rattle.text.specs.Padded.{padded};
 ghost use Rattle.text.specs.Fixed.{field_size, field_text, fixed_of, fixed_bytes_of, fixed_text_of};
 
-use crate::string::{lesser, zero_in};
+use crate::padded::padded;
+use crate::string::zero_in;
 use crate::white::trim;
-use sectors::bytes::copy_bytes;
 
 // Bytes that a field has at most.
 pub const FIELD_SIZE: usize = 16;
 
 // The bytes of a field's text, one a character, and how many they are; zero past them.
 #[repr(C)]
-#[derive(Clone, Copy)]
+#[derive(Clone, Copy, Default)]
 pub struct FixedText {
     pub bytes: [u8; FIELD_SIZE],
     pub len: u8,
@@ -23,19 +22,9 @@ pub struct FixedText {
 fn field_text<'a>(field: &'a [u8]) -> &'a [u8]
     ensures { result.now ≡ field_text field.now }
 {
-    let front = &field[..lesser(FIELD_SIZE, field.len())];
+    let front = &field[..FIELD_SIZE.min(field.len())];
     let n = zero_in(front);
     &front[..n]
-}
-
-// A text of at most 16 bytes, with zeros past it.
-fn sixteen(text: &[u8]) -> [u8; FIELD_SIZE]
-    requires { length text.now ≤ field_size }
-    ensures { result ≡ padded field_size text.now }
-{
-    let mut bytes = [0u8; FIELD_SIZE];
-    copy_bytes(text, &mut bytes, 0);
-    bytes
 }
 
 // A text of at most 16 bytes by value, with its length.
@@ -45,7 +34,7 @@ fn fixed_of(text: &[u8]) -> FixedText
     ensures { result ≡ fixed_of text.now }
 {
     FixedText {
-        bytes: sixteen(text),
+        bytes: padded(text),
         len: text.len() as u8,
     }
 }

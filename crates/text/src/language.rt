@@ -1,6 +1,9 @@
 // Language codes of a table's locales.
 ghost use Rattle.std.specs.Prelude.{◌≡◌};
+ghost use Rattle.std.specs.List.{suffix_len};
 ghost use Rattle.text.specs.Language.{is_zero_orBlank, language_of};
+
+use crate::padded::padded;
 
 // Characters of a language code.
 pub const LANGUAGE_SIZE: usize = 2;
@@ -8,9 +11,9 @@ pub const LANGUAGE_SIZE: usize = 2;
 // A blank, which fills a code up.
 const BLANK: u8 = 0x20;
 
-// The characters of a language code, one byte each, and how many they are; zero past them.
+// The characters of a language code, one byte each, and how many they are; zero past them. (C has this record beside `FixedText`, by its own name.)
 #[repr(C)]
-#[derive(Clone, Copy)]
+#[derive(Clone, Copy, Default)]
 pub struct LanguageCode {
     pub bytes: [u8; LANGUAGE_SIZE],
     pub len: u8,
@@ -21,28 +24,27 @@ pub struct LanguageCode {
 fn is_zero_or_blank(b: u8) -> bool
     ensures { result ≡ is_zero_orBlank b }
 {
-    (b == 0) | (b == BLANK)
+    b == 0 || b == BLANK
+}
+
+// How many zeros and blanks stand at a code's end.
+fn filling(code: &[u8]) -> usize
+    ensures { result ≡ suffix_len is_zero_orBlank code.now }
+{
+    code.iter()
+        .rev()
+        .take_while(|b| is_zero_or_blank(**b))
+        .count()
 }
 
 // The language that two characters name.
-#[tactic(auto, using(crate::proofs::LanguageCases::code_two, crate::proofs::LanguageCases::code_one, crate::proofs::LanguageCases::code_none))]
+#[tactic(auto, using(crate::proofs::Rules::run_lengths), unfolding(crate::specs::Language::language_of, crate::specs::Language::language_text, crate::specs::While::drop_while_end))]
 pub fn language(code: [u8; LANGUAGE_SIZE]) -> LanguageCode
     ensures { result ≡ language_of code }
 {
-    if !is_zero_or_blank(code[1]) {
-        return LanguageCode {
-            bytes: code,
-            len: LANGUAGE_SIZE as u8,
-        };
-    }
-    if !is_zero_or_blank(code[0]) {
-        return LanguageCode {
-            bytes: [code[0], 0],
-            len: 1,
-        };
-    }
+    let text = &code[..LANGUAGE_SIZE - filling(&code)];
     LanguageCode {
-        bytes: [0, 0],
-        len: 0,
+        bytes: padded(text),
+        len: text.len() as u8,
     }
 }

@@ -3,13 +3,13 @@
 
 pub mod charset;
 pub mod decode;
-mod element;
 pub mod fixed;
 pub mod language;
 mod lookup;
 mod mapped;
 mod mapping;
-pub mod refusal;
+mod padded;
+mod points;
 pub mod stored;
 pub mod string;
 mod utf8;

@@ -1,44 +1,19 @@
-// The value of a key in a list of entries, two words each, whose keys rise.
+// The value of a key in entries whose keys rise.
 ghost use Rattle.std.specs.Prelude.{◌≡◌};
 ghost use Rattle.text.specs.Mapping.{Rising, lookup_in};
 
-// Whether a key has a value, and which; 0 if it has none.
-#[derive(Clone, Copy)]
-pub(crate) struct Found {
-    pub there: bool,
-    pub value: u32,
-}
-
-const NOT_FOUND: Found = Found {
-    there: false,
-    value: 0,
-};
-
-// The value of a key: the last entry whose key is at most this one is found by halving.
-pub(crate) fn lookup(entries: &[u32], key: u32) -> Found
+// The value of a key, if an entry has it. One below all keys, as that of two ASCII bytes is among pairs, is not sought.
+pub(crate) fn lookup(entries: &[[u32; 2]], key: u32) -> Option<u32>
     requires { Rising entries.now }
     ensures { result ≡ lookup_in key entries.now }
 {
-    let mut base = 0;
-    let mut size = entries.len() / 2;
-    if size == 0 {
-        return NOT_FOUND;
+    if let Some(&[first, _]) = entries.first()
+        && key < first
+    {
+        return None;
     }
-    if key < entries[0] {
-        return NOT_FOUND;
-    }
-    while 1 < size {
-        let half = size / 2;
-        if entries[2 * (base + half)] <= key {
-            base += half;
-        }
-        size -= half;
-    }
-    if entries[2 * base] != key {
-        return NOT_FOUND;
-    }
-    Found {
-        there: true,
-        value: entries[2 * base + 1],
+    match entries.binary_search_by_key(&key, |entry| entry[0]) {
+        Ok(at) => Some(entries[at][1]),
+        Err(_) => None,
     }
 }

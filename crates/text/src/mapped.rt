@@ -1,148 +1,95 @@
 // Strings decoded by a mapping: how long their text is, and its UTF-8 written to a page.
-ghost use Rattle.std.specs.Prelude.{◌≡◌, ◌+◌, ◌≤◌, leb, length};
+ghost use Rattle.std.specs.Prelude.{◌≡◌, ◌≤◌, true, leb, length};
 ghost use Rattle.sectors.specs.Fill.{fill};
-ghost use Rattle.text.specs.Decode.{mapped_of, unless_absent, answer_in, page_with};
-ghost use Rattle.text.specs.Element.{HasPoints, value_text, mapped_text};
-ghost use Rattle.text.specs.Parts.{MappingAt};
-ghost use Rattle.text.specs.Utf8.{utf8, blanked};
+ghost use Rattle.text.specs.Charset.{set_number};
+ghost use Rattle.text.specs.Decode.{mapped_of, unless_absent, answer_by, answer_in, page_with};
+ghost use Rattle.text.specs.Mapped.{points_by};
+ghost use Rattle.text.specs.Mapping.{all_points};
+ghost use Rattle.text.specs.Points.{points_left};
+ghost use Rattle.text.specs.Utf8.{utf8, blanked, encoded};
 
-use crate::decode::DecodeAnswer;
-use crate::element::element_at;
-use crate::mapping::{DOUBLE_BASE, Parts, doubles_of, is_mapping, pairs_of, parts_of, singles_of};
-use crate::refusal::{BAD_MAPPING, SET_NOT_HELD, SHORT_PAGE};
+use crate::charset::CharacterSet;
+use crate::decode::DecodeRefusal;
+use crate::mapping::Mapping;
+use crate::points::Points;
 use crate::utf8::put_character;
 
 // A byte of a string gives at most so many of UTF-8: two code points of four bytes.
 const MOST_BYTES: usize = 8;
 
-// How many bytes the UTF-8 of a character has.
+// How many bytes the UTF-8 of a character has; `char::len_utf8` would want a `char`, made again of each number that is known to be one.
 #[tactic(auto, using(crate::proofs::Rules::utf8_sizes, crate::specs::Utf8Laws::blanked_below, crate::specs::Utf8Laws::blanked_high))]
 fn point_length(point: u32) -> usize
     ensures { result ≡ length (utf8 (blanked point)) }
 {
-    if point < 0x80 {
-        return 1;
+    match point {
+        0..0x80 => 1,
+        0x80..0x800 => 2,
+        0x800..0x10000 => 3,
+        _ => 4,
     }
-    if point < 0x800 {
-        return 2;
-    }
-    if point < 0x10000 {
-        return 3;
-    }
-    4
 }
 
-// How many bytes the text of a value has.
-#[tactic(auto, using(std::proofs::lemmas::Grind::common_steps, crate::proofs::ElementLaws::value_one, crate::proofs::ElementLaws::value_two, crate::specs::Utf8Laws::utf8_length))]
-fn value_length(doubles: &[u32], value: u32) -> usize
-    requires { HasPoints doubles.now value }
-    ensures { result ≡ length (value_text doubles.now value) }
+// Whether the text of code points has at most so many bytes: what is left of them is counted down.
+#[tactic(auto, using(std::proofs::lemmas::Bool::Decides::nat_tests, crate::proofs::PointsLaws::length_first, crate::specs::Utf8Laws::encoded_none))]
+fn fits(points: Points<'_>, room: usize) -> bool
+    ensures { result ≡ leb (length (encoded (points_left points.entry))) room }
 {
-    if value < DOUBLE_BASE {
-        return point_length(value);
-    }
-    let j = 2 * (value - DOUBLE_BASE) as usize;
-    point_length(doubles[j]) + point_length(doubles[j + 1])
-}
-
-// Writes the text of a value from a place on; answers the place behind it.
-#[tactic(auto, using(crate::proofs::ElementLaws::value_one))]
-fn put_value(page: &mut [u8], at: usize, doubles: &[u32], value: u32) -> usize
-    requires { HasPoints doubles.now value × (at + length (value_text doubles.now value) ≤ length page.old) }
-    ensures written { page.new ≡ fill at (value_text doubles.now value) page.old }
-    ensures next { result ≡ at + length (value_text doubles.now value) }
-{
-    if value < DOUBLE_BASE {
-        return put_character(page, at, value);
-    }
-    let j = 2 * (value - DOUBLE_BASE) as usize;
-    let next = put_character(page, at, doubles[j]);
-    put_character(page, next, doubles[j + 1])
-}
-
-// Whether the text of a string has at most so many bytes: what is left of them is counted down.
-#[tactic(auto, using(crate::specs::PartsLaws::mapping_whole_at))]
-fn fits(bytes: &[u8], set: u8, words: &[u32], parts: Parts, room: usize) -> bool
-    requires { MappingAt words.now parts }
-    ensures { result ≡ leb (length (mapped_text words.now set bytes.now)) room }
-{
-    let singles = singles_of(words, parts);
-    let pairs = pairs_of(words, parts);
-    let doubles = doubles_of(words, parts);
     let mut left = room;
-    let mut i = 0;
-    while i < bytes.len() {
-        let element = element_at(bytes, i, set, singles, pairs);
-        let size = value_length(doubles, element.value);
+    for point in points {
+        let size = point_length(point);
         if left < size {
             return false;
         }
         left -= size;
-        i += element.size;
     }
     true
 }
 
-// The same, without a look at the bytes where there is room for whatever they give.
-#[tactic(auto, using(std::proofs::lemmas::Bool::Decides::nat_tests, crate::proofs::MappedLaws::text_most), unfolding(crate::specs::Element::mapped_text))]
-fn has_room(bytes: &[u8], set: u8, words: &[u32], parts: Parts, room: usize) -> bool
-    requires { MappingAt words.now parts }
-    ensures { result ≡ leb (length (mapped_text words.now set bytes.now)) room }
+// The same of a string, without a look at the bytes where there is room for whatever they give.
+#[tactic(auto, using(std::proofs::lemmas::Bool::Decides::nat_tests, crate::proofs::MappedLaws::points_most))]
+fn has_room(mapping: &Mapping<'_>, set: CharacterSet, bytes: &[u8], room: usize) -> bool
+    ensures { result ≡ leb (length (encoded (points_by mapping.now (set_number set) bytes.now))) room }
 {
-    if bytes.len() <= room / MOST_BYTES {
-        return true;
-    }
-    fits(bytes, set, words, parts, room)
+    bytes.len() <= room / MOST_BYTES || fits(Points::new(mapping, set, bytes), room)
 }
 
-// Writes the text of a string to the start of a page; answers how many bytes it has.
-#[tactic(auto, using(crate::specs::PartsLaws::mapping_whole_at))]
-fn put_mapped(bytes: &[u8], set: u8, words: &[u32], parts: Parts, page: &mut [u8]) -> usize
-    requires { MappingAt words.now parts × (length (mapped_text words.now set bytes.now) ≤ length page.old) }
-    ensures filled { page.new ≡ fill 0 (mapped_text words.now set bytes.now) page.old }
-    ensures size { result ≡ length (mapped_text words.now set bytes.now) }
+// Writes the text of code points to the start of a page; answers how many bytes it has.
+#[tactic(auto, using(crate::specs::Utf8Laws::encoded_none, sectors::specs::FillLaws::fill_none))]
+fn put_points(points: Points<'_>, page: &mut [u8]) -> usize
+    requires { (all_points (points_left points) ≡ true) × (length (encoded (points_left points)) ≤ length page.old) }
+    ensures filled { page.new ≡ fill 0 (encoded (points_left points.entry)) page.old }
+    ensures size { result ≡ length (encoded (points_left points.entry)) }
 {
-    let singles = singles_of(words, parts);
-    let pairs = pairs_of(words, parts);
-    let doubles = doubles_of(words, parts);
     let mut len = 0;
-    let mut i = 0;
-    while i < bytes.len() {
-        let element = element_at(bytes, i, set, singles, pairs);
-        len = put_value(page, len, doubles, element.value);
-        i += element.size;
+    for point in points {
+        len = put_character(page, len, point);
     }
     len
 }
 
 // Decodes a string of set 3 to 6 by a mapping; an absent one without a look at it.
-#[tactic(auto, using(crate::proofs::Rules::mapped), unfolding(crate::specs::Decode::giving, crate::specs::Decode::refusing, crate::specs::Decode::answer_in, crate::specs::Decode::page_with, crate::specs::Element::mapped_text))]
-pub(crate) fn decode_mapped(bytes: &[u8], set: u8, words: &[u32], page: &mut [u8]) -> DecodeAnswer
-    ensures answer { result ≡ answer_in (length page.old) (unless_absent bytes.now (mapped_of words.now set bytes.now)) }
-    ensures filled { page.new ≡ page_with (unless_absent bytes.now (mapped_of words.now set bytes.now)) page.old }
+#[tactic(auto, using(std::proofs::lemmas::Bool::Decides::nat_tests, crate::proofs::Rules::mapped, crate::proofs::MappedLaws::none_taken, crate::proofs::MappedLaws::one_taken, crate::proofs::MappedLaws::points_sound), unfolding(crate::specs::Mapped::mapped_points, crate::specs::Decode::answer_by, crate::specs::Refusal::number_of, crate::specs::Decode::answer_in, crate::specs::Decode::page_with))]
+pub(crate) fn decode_mapped(
+    bytes: &[u8],
+    set: CharacterSet,
+    words: &[u32],
+    page: &mut [u8],
+) -> Result<usize, DecodeRefusal>
+    ensures answer { answer_by result ≡ answer_in (length page.old) (unless_absent bytes.now (mapped_of words.now (set_number set) bytes.now)) }
+    ensures filled { page.new ≡ page_with (unless_absent bytes.now (mapped_of words.now (set_number set) bytes.now)) page.old }
 {
-    if bytes.len() == 0 {
-        return DecodeAnswer { refusal: 0, len: 0 };
+    if bytes.is_empty() {
+        return Ok(0);
     }
-    if words.len() == 0 {
-        return DecodeAnswer {
-            refusal: SET_NOT_HELD,
-            len: 0,
-        };
+    if words.is_empty() {
+        return Err(DecodeRefusal::SetNotHeld);
     }
-    let parts = parts_of(words);
-    if !is_mapping(words, parts) {
-        return DecodeAnswer {
-            refusal: BAD_MAPPING,
-            len: 0,
-        };
+    let Some(mapping) = Mapping::new(words) else {
+        return Err(DecodeRefusal::BadMapping);
+    };
+    if !has_room(&mapping, set, bytes, page.len()) {
+        return Err(DecodeRefusal::ShortPage);
     }
-    if !has_room(bytes, set, words, parts, page.len()) {
-        return DecodeAnswer {
-            refusal: SHORT_PAGE,
-            len: 0,
-        };
-    }
-    let len = put_mapped(bytes, set, words, parts, page);
-    DecodeAnswer { refusal: 0, len }
+    Ok(put_points(Points::new(&mapping, set, bytes), page))
 }

@@ -1,38 +1,34 @@
 // Stored strings: the bytes of a table from a place up to a zero byte, and how they ended.
-ghost use Rattle.std.specs.Prelude.{◌≡◌, min, length};
+ghost use Rattle.std.specs.Prelude.{◌≡◌, length};
 ghost use Rattle.sectors.specs.Fill.{part, start_at};
-ghost use Rattle.text.specs.String.{until_zero, max_string_bytes, string_at, string_start, end_by, end_of};
+ghost use Rattle.text.specs.String.{until_zero, max_string_bytes, string_at, string_start, end_number, end_by, end_of};
 
 // Bytes that a string has at most.
 pub const MAX_STRING_BYTES: usize = 4096;
 
 // How a string ended.
-pub const ENDED_BY_ZERO_BYTE: u8 = 1;
+#[derive(Clone, Copy, Debug, PartialEq, Eq)]
+pub enum StringEnd {
+    ZeroByte = 1,
+    MaxBytes = 2,
+    TableEnd = 3,
+}
 
-pub const ENDED_BY_MAX_BYTES: u8 = 2;
+impl From<StringEnd> for u8 {
+    ghost from_gives = { λ e n. n ≡ end_number e };
 
-pub const ENDED_BY_TABLE_END: u8 = 3;
+    #[tactic(auto, unfolding(crate::specs::String::end_number))]
+    fn from(end: StringEnd) -> u8 {
+        end as u8
+    }
+}
 
 // How many bytes stand before the first zero byte; all, if there is none.
-#[tactic(auto, using(crate::specs::WhileLaws::scan_more, crate::specs::WhileLaws::scan_stop, crate::specs::WhileLaws::scan_end, crate::proofs::StringLaws::ne_nonzero, crate::proofs::StringLaws::eq_nonzero), unfolding(crate::specs::String::until_zero))]
+#[tactic(auto, unfolding(crate::specs::String::until_zero, crate::specs::String::nonzero))]
 pub(crate) fn zero_in(bytes: &[u8]) -> usize
     ensures { result ≡ length (until_zero bytes.now) }
 {
-    let mut i = 0;
-    while i < bytes.len() {
-        if bytes[i] == 0 {
-            return i;
-        }
-        i += 1;
-    }
-    i
-}
-
-// The lesser of two numbers.
-pub(crate) fn lesser(a: usize, b: usize) -> usize
-    ensures { result ≡ min a b }
-{
-    if a < b { a } else { b }
+    bytes.iter().take_while(|b| **b != 0).count()
 }
 
 // The bytes that the string at a place can have, as a part of the table.
@@ -41,8 +37,8 @@ pub(crate) fn string_window<'a>(table: &'a [u8], place: usize) -> &'a [u8]
     ensures bytes { result.now ≡ part place max_string_bytes table.now }
     ensures placed { result.ref_ptr ≡ start_at table.entry.ref_ptr (string_start table.now place) }
 {
-    let start = lesser(place, table.len());
-    let size = lesser(MAX_STRING_BYTES, table.len() - start);
+    let start = place.min(table.len());
+    let size = MAX_STRING_BYTES.min(table.len() - start);
     &table[start..start + size]
 }
 
@@ -58,23 +54,23 @@ pub fn string_bytes<'a>(table: &'a [u8], place: usize) -> &'a [u8]
 }
 
 // How a string ended: in a table of so many bytes, of the string at a place that has so many.
-#[tactic(auto, using(crate::proofs::StringLaws::end_max, crate::proofs::StringLaws::end_zero, crate::proofs::StringLaws::end_table))]
-pub fn end_by(size: usize, place: usize, len: usize) -> u8
-    ensures { result ≡ end_by size place len }
+#[tactic(auto, using(crate::proofs::StringLaws::end_max, crate::proofs::StringLaws::end_zero, crate::proofs::StringLaws::end_table), unfolding(crate::specs::String::end_number))]
+pub fn end_by(size: usize, place: usize, len: usize) -> StringEnd
+    ensures { end_number result ≡ end_by size place len }
 {
     if len == MAX_STRING_BYTES {
-        return ENDED_BY_MAX_BYTES;
+        return StringEnd::MaxBytes;
     }
-    if len < size - lesser(place, size) {
-        return ENDED_BY_ZERO_BYTE;
+    if len < size.saturating_sub(place) {
+        return StringEnd::ZeroByte;
     }
-    ENDED_BY_TABLE_END
+    StringEnd::TableEnd
 }
 
 // How the string at a place ended; one at the table's end, or past it, by that.
 #[tactic(auto, using(crate::proofs::StringLaws::end_of_lem))]
-pub fn string_end(table: &[u8], place: usize) -> u8
-    ensures { result ≡ end_of table.now place }
+pub fn string_end(table: &[u8], place: usize) -> StringEnd
+    ensures { end_number result ≡ end_of table.now place }
 {
     end_by(table.len(), place, string_bytes(table, place).len())
 }

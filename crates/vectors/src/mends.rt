@@ -1,77 +1,71 @@
 // Cards of mending: the header that a header mends to, as 12 hexadecimal digits, or the refusal, written one to a line.
-use crate::{raw_sector, refusal_line};
+use crate::hex::Hex;
+use crate::{RAW_SIZE, raw_sector, refusal_line};
+use sectors::header::HEADER_SIZE;
 use sectors::mend::mend;
-use sectors::number::{be16_at, be32_at};
-use sectors::sector::Lsn;
+use sectors::sector::{Image, Lsn};
 use std::io;
 use std::io::Write;
 
+// A header beyond mending: zero at 1 alone.
+const BEYOND: [u8; HEADER_SIZE] = [0x00, 0x00, 0x00, 0x01, 0x02, 0x03];
+
+// Headers that are mended.
+const HEADERS: [[u8; HEADER_SIZE]; 14] = [
+    // A bad byte at each of the six places of 00 00 00 01 03 02, and that itself.
+    [0x80, 0x00, 0x00, 0x01, 0x03, 0x02],
+    [0x00, 0xff, 0x00, 0x01, 0x03, 0x02],
+    [0x00, 0x00, 0x01, 0x01, 0x03, 0x02],
+    [0x00, 0x00, 0x00, 0x81, 0x03, 0x02],
+    [0x00, 0x00, 0x00, 0x01, 0x00, 0x02],
+    [0x00, 0x00, 0x00, 0x01, 0x03, 0xfd],
+    [0x00, 0x00, 0x00, 0x01, 0x03, 0x02],
+    // The blank header, and with its first and its last byte set.
+    [0x00, 0x00, 0x00, 0x00, 0x00, 0x00],
+    [0x01, 0x00, 0x00, 0x00, 0x00, 0x00],
+    [0x00, 0x00, 0x00, 0x00, 0x00, 0x01],
+    // Zero at 1 alone, at α alone, and at neither, all beyond mending.
+    BEYOND,
+    [0x00, 0x00, 0x00, 0x00, 0x01, 0x02],
+    [0x00, 0x00, 0x00, 0x00, 0x01, 0x03],
+    // Two bytes set in a blank header, which is nearer to another.
+    [0x00, 0x00, 0x00, 0x00, 0x03, 0x02],
+];
+
 // A line of what mending the header of a sector answers.
-fn mend_line(out: &mut impl Write, format: u32, image: &[u8], lsn: u32) -> io::Result<()> {
-    let answer = mend(format, image, Lsn(lsn));
-    if answer.refusal != 0 {
-        return refusal_line(out, answer.refusal);
+fn mend_line(out: &mut impl Write, image: Image, lsn: u32) -> io::Result<()> {
+    match mend(image, Lsn(lsn)) {
+        Ok(header) => writeln!(out, "{}", Hex(&header)),
+        Err(refusal) => refusal_line(out, refusal.into()),
     }
-    let header = answer.header;
-    writeln!(
-        out,
-        "{:08x}{:04x}",
-        be32_at(&header, 0),
-        be16_at(&header, 4)
-    )
 }
 
 // The header of a format 2 image of one sector, mended.
-fn header_line(out: &mut impl Write, a: u8, b: u8, c: u8, d: u8, e: u8, f: u8) -> io::Result<()> {
-    let image = raw_sector(a, b, c, d, e, f);
-    mend_line(out, 2, &image, 0)
-}
-
-// A bad byte at each of the six places of 00 00 00 01 03 02, and that itself.
-fn one_bad_byte(out: &mut impl Write) -> io::Result<()> {
-    header_line(out, 0x80, 0x00, 0x00, 0x01, 0x03, 0x02)?;
-    header_line(out, 0x00, 0xff, 0x00, 0x01, 0x03, 0x02)?;
-    header_line(out, 0x00, 0x00, 0x01, 0x01, 0x03, 0x02)?;
-    header_line(out, 0x00, 0x00, 0x00, 0x81, 0x03, 0x02)?;
-    header_line(out, 0x00, 0x00, 0x00, 0x01, 0x00, 0x02)?;
-    header_line(out, 0x00, 0x00, 0x00, 0x01, 0x03, 0xfd)?;
-    header_line(out, 0x00, 0x00, 0x00, 0x01, 0x03, 0x02)
-}
-
-// The blank header, and with its first and its last byte set.
-fn blank(out: &mut impl Write) -> io::Result<()> {
-    header_line(out, 0x00, 0x00, 0x00, 0x00, 0x00, 0x00)?;
-    header_line(out, 0x01, 0x00, 0x00, 0x00, 0x00, 0x00)?;
-    header_line(out, 0x00, 0x00, 0x00, 0x00, 0x00, 0x01)
-}
-
-// Zero at 1 alone, at α alone, and at neither, all beyond mending; and two bytes set in a blank header, which is nearer to another.
-fn two_bad_bytes(out: &mut impl Write) -> io::Result<()> {
-    header_line(out, 0x00, 0x00, 0x00, 0x01, 0x02, 0x03)?;
-    header_line(out, 0x00, 0x00, 0x00, 0x00, 0x01, 0x02)?;
-    header_line(out, 0x00, 0x00, 0x00, 0x00, 0x01, 0x03)?;
-    header_line(out, 0x00, 0x00, 0x00, 0x00, 0x03, 0x02)
+fn mended(out: &mut impl Write) -> io::Result<()> {
+    for header in HEADERS {
+        let bytes = &raw_sector(header);
+        mend_line(out, Image { format: 2, bytes }, 0)?;
+    }
+    Ok(())
 }
 
 // A header beyond mending, asked for in formats 3 and 1 behind the end, in format 0, and in format 2 behind the end.
 fn refusals(out: &mut impl Write) -> io::Result<()> {
-    let image = raw_sector(0x00, 0x00, 0x00, 0x01, 0x02, 0x03);
-    mend_line(out, 3, &image, 1)?;
-    mend_line(out, 1, &image, 1)?;
-    mend_line(out, 0, &image, 0)?;
-    mend_line(out, 2, &image, 1)
+    let bytes = &raw_sector(BEYOND);
+    for (format, lsn) in [(3, 1), (1, 1), (0, 0), (2, 1)] {
+        mend_line(out, Image { format, bytes }, lsn)?;
+    }
+    Ok(())
 }
 
 // A blank header of a sector that is cut by a byte.
 fn cut(out: &mut impl Write) -> io::Result<()> {
-    let image = [0u8; 2064];
-    mend_line(out, 2, &image[..2063], 0)
+    let bytes = &[0u8; RAW_SIZE - 1];
+    mend_line(out, Image { format: 2, bytes }, 0)
 }
 
 pub(crate) fn cards(out: &mut impl Write) -> io::Result<()> {
-    one_bad_byte(out)?;
-    blank(out)?;
-    two_bad_bytes(out)?;
+    mended(out)?;
     refusals(out)?;
     cut(out)
 }

@@ -3,8 +3,8 @@ use Rattle.std.proofs.Common.{length, ◌+◌, ◌-◌, ◌≤◌}
 use Rattle.area.proofs.Walking.{Left}
 use Rattle.area.proofs.chain.walk.Given as goal
 
-abbrev pub invariant-loop-p : goal.invariant-loop-p
-invariant-loop-p l = Left l.table l.p l.chain × (l.p ≤ length l.table + 65536)
+abbrev pub invariant-loop-structure : goal.invariant-loop-structure
+invariant-loop-structure l = Left l.table l.place l.chain × (l.place ≤ length l.table + 65536)
 
-abbrev pub decreases-loop-p : goal.decreases-loop-p
-decreases-loop-p l = length l.table - l.p
+abbrev pub decreases-loop-structure : goal.decreases-loop-structure
+decreases-loop-structure l = length l.table - l.place

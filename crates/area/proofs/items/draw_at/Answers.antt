@@ -1,32 +1,25 @@
--- `area::items::draw_at` meets its contract: the tests say whether the item has its two bytes, and the search for the next nonzero byte
--- from the string's end on says whether any are left. Assumes nothing.
-use Rattle.std.proofs.Common.{◌≡◌, ℕ, zero, suc, ◌+◌, ◌-◌, ◌<◌, ◌≤◌, true, cond, ltb, List, length, arith}
-use Rattle.std.proofs.lemmas.Bool.Decides.{nat_tests}
+-- `area::items::draw_at` meets its contract: the draw by what is found behind the item's string.
+use Rattle.std.proofs.Common.{◌≡◌, ◌+◌, length, take, drop, ◌-◌, ◌<◌, ◌≤◌, slice_index_or, arith, rules, ◌∙◌, sym}
+use Rattle.std.proofs.lemmas.Grind.{common_steps}
+use Rattle.area.specs.ItemLaws.{draw_none, draw_more, draw_last}
 use Rattle.sectors.specs.Number.{be_at}
 use Rattle.sectors.specs.NumberLaws.{be_byte}
-use Rattle.text.specs.String.{string_at}
-use Rattle.area.specs.Items.{next_item, draw_at}
-use Rattle.area.specs.ItemLaws.{draw_item}
+use Rattle.area.proofs.items.draw_at.Goals.{in-Some, in-None}
 use Rattle.area.proofs.items.draw_at.Goals as goal
 
--- with its two bytes there, the item is drawn, where some are left
-draw_some : (table : List ℕ) (at left : ℕ) → 0 < left → at + 2 ≤ length table
-    → draw_at table at left
-    ≡ record {
-      found = true;
-      kind = be_at table at 1;
-      place = at + 2;
-      len = length (string_at table (at + 2));
-      next = next_item table at;
-      left = cond (ltb (next_item table at) (length table)) (left - 1) 0;
-    }
-draw_some table at zero some two = absurd (omega arith)
-draw_some table at (suc left) some two = let e : suc left - 1 ≡ left = omega arith in rw e (draw_item table at left two)
+pub returns-in_err-left : goal.returns-in_err-left
+returns-in_err-left c = rw (draw_none c.args.table.now c.args.next c.args.left (omega (arith, c.in_err-left.ensures))) c.from_residual.ensures
 
-pub returns-then-q-table : goal.returns-then-q-table
-unfolding next_item
-returns-then-q-table c = grind (arith, nat_tests, draw_some, be_byte)
-
-pub returns-else-q-table : goal.returns-else-q-table
-unfolding next_item
-returns-else-q-table c = grind (arith, nat_tests, draw_some, be_byte)
+pub returns : goal.returns
+returns c =
+    let table = c.args.table.now in let at = c.args.next in let string = c.string_bytes-len.result.now in let end = at + 2 + length string in
+    let rest = take (length table - end) (drop end table) in
+    let kind : be_at table at 1 ≡ slice_index_or c.in_ok-get.field-0.now 0 0 = grind (arith, common_steps, be_byte) in
+    let two : at + 2 ≤ length table = grind (arith, common_steps) in
+    let behind : rest ≡ drop end table = grind (arith, common_steps) in
+    let left : c.in_ok-left.left ≡ c.args.left - 1 = search rules in
+    let one : 0 < c.args.left = omega arith in
+    elim c.match-nonzero_in.branch [
+      | in-Some w ↦ rw (w.next-is, sym kind, left) (sym (draw_more table at c.args.left one two string rest c.string_bytes-len.ensures.bytes behind w.in-Some.zeros (sym c.nonzero_in.ensures ∙ w.in-Some.is)))
+      | in-None w ↦ rw (w.next-is, sym kind) (sym (draw_last table at c.args.left one two string rest c.string_bytes-len.ensures.bytes behind (sym c.nonzero_in.ensures ∙ w.in-None.is)))
+    ]

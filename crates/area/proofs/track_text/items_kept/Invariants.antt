@@ -6,13 +6,10 @@ use Rattle.area.proofs.Keeping.{searched}
 use Rattle.area.proofs.track_text.items_kept.Given as goal
 
 abbrev pub invariant-loop-q : goal.invariant-loop-q
-invariant-loop-q l = keep_all l.table (searched l.table l.q l.left) (record { places = l.places; unknown = l.unknown }) ≡ items_kept l.table l.place l.count
+invariant-loop-q l = keep_all l.table (searched l.table l.q l.left) (record { places = l.places; warning = l.warning }) ≡ items_kept l.table l.place l.count
 
 abbrev pub decreases-loop-q : goal.decreases-loop-q
 decreases-loop-q l = length l.table - l.q
 
 abbrev pub invariant-items : goal.invariant-items
-invariant-items l = keep_all l.table (items_from l.table l.q l.left) (record { places = l.places; unknown = l.unknown }) ≡ items_kept l.table l.place l.count
-
-abbrev pub decreases-items : goal.decreases-items
-decreases-items l = l.left
+invariant-items l = keep_all l.table (items_from l.table l.q l.left) (record { places = l.places; warning = l.warning }) ≡ items_kept l.table l.place l.count

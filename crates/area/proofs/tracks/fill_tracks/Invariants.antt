@@ -1,16 +1,11 @@
 -- After i tracks the lists and the count are what `Filling` says of i tracks.
-use Rattle.std.proofs.Common.{◌≡◌, ◌≤◌, ◌+◌, ◌-◌}
+use Rattle.std.proofs.Common.{◌≡◌}
 use Rattle.area.proofs.Filling.{tracks_to, count_to, words_to}
 use Rattle.area.proofs.tracks.fill_tracks.Given as goal
 
 abbrev pub invariant-loop-i : goal.invariant-loop-i
 invariant-loop-i l = record {
-  within : l.i ≤ l.n;
-  place : l.at ≡ l.base + l.i;
-  count : l.c ≡ count_to l.lent l.head l.fn.words l.count l.i;
+  count : l.written ≡ count_to l.lent l.head l.fn.words l.count l.i;
   tracks : l.tracks ≡ tracks_to l.lent l.head l.fn.tracks l.base l.i;
   words : l.words ≡ words_to l.lent l.head l.fn.words l.count l.i;
 }
-
-abbrev pub decreases-loop-i : goal.decreases-loop-i
-decreases-loop-i l = l.n - l.i

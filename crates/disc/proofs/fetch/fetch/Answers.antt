@@ -39,30 +39,30 @@ module _ (format : ℕ) (image old : List ℕ)
 
 pub master_copies_differ-differ-requires : goal.master_copies_differ-differ-requires
 master_copies_differ-differ-requires c = let a = c.args in (
-  there_known a.format a.image.now c.requires.0,
-  ap length (region a.format a.image.now a.work.now c.requires _ c.read_sectors.ensures.filled _ c.master_region-table.ensures)
-      ∙ master_length a.format a.image.now c.requires.0,
+  there_known a.image.format a.image.bytes.now c.requires.0,
+  ap length (region a.image.format a.image.bytes.now a.work.now c.requires _ c.read_sectors.ensures.filled _ c.master_region-table.ensures)
+      ∙ master_length a.image.format a.image.bytes.now c.requires.0,
 )
 
 pub fetch_slot-first-requires : goal.fetch_slot-first-requires
 fetch_slot-first-requires c =
     let a = c.args in let room = c.requires.1 in
-    let n = read_length a.format a.image.now a.work.now c.requires _ c.read_sectors.ensures.filled in
-    (there_known a.format a.image.now c.requires.0, fits 262144 n (omega arith))
+    let n = read_length a.image.format a.image.bytes.now a.work.now c.requires _ c.read_sectors.ensures.filled in
+    (there_known a.image.format a.image.bytes.now c.requires.0, fits 262144 n (omega arith))
 
 pub fetch_slot-second-requires : goal.fetch_slot-second-requires
 fetch_slot-second-requires c =
     let a = c.args in let room = c.requires.1 in let read = c.read_sectors.ensures.filled in
-    let n = read_length a.format a.image.now a.work.now c.requires _ read in
-    let m = slot_length a.format a.image.now a.work.now c.requires _ read _ 0 _ _ (fits 262144 n (omega arith)) c.fetch_slot-first.ensures.filled in
-    (there_known a.format a.image.now c.requires.0, fits 524288 (m ∙ n) (omega arith))
+    let n = read_length a.image.format a.image.bytes.now a.work.now c.requires _ read in
+    let m = slot_length a.image.format a.image.bytes.now a.work.now c.requires _ read _ 0 _ _ (fits 262144 n (omega arith)) c.fetch_slot-first.ensures.filled in
+    (there_known a.image.format a.image.bytes.now c.requires.0, fits 524288 (m ∙ n) (omega arith))
 
 pub returns : goal.returns
 unfolding fetched_of work_after copy_of region_at
 returns c =
-    let a = c.args in let image = a.image.now in let source = image_source a.format image in
+    let a = c.args in let image = a.image.bytes.now in let source = image_source a.image.format image in
     let one = c.fetch_slot-first.ensures in let two = c.fetch_slot-second.ensures in let read = c.read_sectors.ensures.filled in
-    let table = region a.format image a.work.now c.requires _ read _ c.master_region-table.ensures in
+    let table = region a.image.format image a.work.now c.requires _ read _ c.master_region-table.ensures in
     let p = c.two_channel_pointer-two_channel.ensures ∙ ap (λ (t : List ℕ). pointer_of t two_channel) table in
     let q = c.multichannel_pointer-multichannel.ensures ∙ ap (λ (t : List ℕ). pointer_of t multichannel) table in
     record {
@@ -74,5 +74,5 @@ returns c =
       filled =
           two.filled
           ∙ (λ i. fill 262144 (bytes_of (chosen source (q i)))
-          ((one.filled ∙ (λ j. fill 0 (bytes_of (chosen source (p j))) (filled a.format image a.work.now c.requires _ read j))) i));
+          ((one.filled ∙ (λ j. fill 0 (bytes_of (chosen source (p j))) (filled a.image.format image a.work.now c.requires _ read j))) i));
     }

@@ -1,17 +1,11 @@
--- The loop folds the bytes by the published step.
-use Rattle.std.proofs.Common.{arith}
-use Rattle.sectors.specs.Fnv.{digest_of, fnv_step}
-use Rattle.sectors.proofs.Fold.{starts, goes_on, ends}
+-- The closure is a step as published.
+use Rattle.std.proofs.Common.{rules}
+use Rattle.std.proofs.lemmas.Iterator.{YieldsList-from_slice}
+use Rattle.std.proofs.lemmas.Iterator.Consumers.{fold_from_yields_List}
+use Rattle.sectors.specs.Fnv.{digest_of, fnv_step, offset_basis}
 use Rattle.sectors.proofs.fnv.digest.Goals as goal
 
-pub loop-i-init : goal.loop-i-init
-loop-i-init c = starts fnv_step _ _
-
-pub loop-i-preserved : goal.loop-i-preserved
-unfolding fnv_step
-loop-i-preserved c =
-    goes_on fnv_step _ c.loop-i.invariant c.loop-i-test.true (rw (c.wrapping_mul-hash.ensures, c.wide.ensures))
-
 pub returns : goal.returns
-unfolding digest_of
-returns c = ends fnv_step _ c.loop-i.invariant (omega arith)
+unfolding digest_of fnv_step
+returns c =
+    fold_from_yields_List _ fnv_step offset_basis _ c.fold.ensures.ran (YieldsList-from_slice c.args.bytes.now cc) (λ hash byte r q k. search rules)

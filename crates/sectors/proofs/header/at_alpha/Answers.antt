@@ -1,18 +1,12 @@
--- The loop folds the bytes by Horner's rule.
-use Rattle.std.proofs.Common.{arith}
-use Rattle.sectors.specs.Field.{◌⊕◌}
+-- The closure is a step of Horner's rule.
+use Rattle.std.proofs.Common.{rules}
+use Rattle.std.proofs.lemmas.Iterator.{YieldsList-from_slice}
+use Rattle.std.proofs.lemmas.Iterator.Consumers.{fold_from_yields_List}
+use Rattle.sectors.specs.Field.{◌⊕◌, times_alpha}
 use Rattle.sectors.specs.Header.{at_alpha}
-use Rattle.sectors.proofs.Fold.{starts, goes_on, ends}
-use Rattle.sectors.proofs.header.at_alpha.Invariants.{horner}
 use Rattle.sectors.proofs.header.at_alpha.Goals as goal
 
-pub loop-i-init : goal.loop-i-init
-loop-i-init c = starts horner _ _
-
-pub loop-i-preserved : goal.loop-i-preserved
-unfolding ◌⊕◌
-loop-i-preserved c = goes_on horner _ c.loop-i.invariant c.loop-i-test.true (rw c.times_alpha.ensures)
-
 pub returns : goal.returns
-unfolding at_alpha
-returns c = ends horner _ c.loop-i.invariant (omega arith)
+unfolding at_alpha ◌⊕◌
+returns c =
+    fold_from_yields_List _ (λ v a. times_alpha v ⊕ a) 0 _ c.fold.ensures.ran (YieldsList-from_slice c.args.h.now cc) (λ v b r q k. search rules)

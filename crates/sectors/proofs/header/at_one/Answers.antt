@@ -1,17 +1,11 @@
--- The loop folds the bytes by ⊕.
-use Rattle.std.proofs.Common.{refl, arith}
+-- The closure adds a byte: the fold is by ⊕.
+use Rattle.std.proofs.Common.{rules}
+use Rattle.std.proofs.lemmas.Iterator.{YieldsList-from_slice}
+use Rattle.std.proofs.lemmas.Iterator.Consumers.{fold_from_yields_List}
 use Rattle.sectors.specs.Field.{◌⊕◌}
 use Rattle.sectors.specs.Header.{at_one}
-use Rattle.sectors.proofs.Fold.{starts, goes_on, ends}
 use Rattle.sectors.proofs.header.at_one.Goals as goal
 
-pub loop-i-init : goal.loop-i-init
-loop-i-init c = starts ◌⊕◌ _ _
-
-pub loop-i-preserved : goal.loop-i-preserved
-unfolding ◌⊕◌
-loop-i-preserved c = goes_on ◌⊕◌ _ c.loop-i.invariant c.loop-i-test.true refl
-
 pub returns : goal.returns
-unfolding at_one
-returns c = ends ◌⊕◌ _ c.loop-i.invariant (omega arith)
+unfolding at_one ◌⊕◌
+returns c = fold_from_yields_List _ ◌⊕◌ 0 _ c.fold.ensures.ran (YieldsList-from_slice c.args.h.now cc) (λ v b r q k. search rules)

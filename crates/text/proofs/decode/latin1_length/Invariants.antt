@@ -1,10 +1,8 @@
--- A byte passed counts once, and once more if it is 128 or above.
-use Rattle.std.proofs.Common.{◌≡◌, ◌+◌, ◌-◌, ◌≤◌, length, take}
+-- The bytes that are still to come count once, and those passed as many times as their text has bytes.
+use Rattle.std.proofs.Common.{◌≡◌, ◌+◌, ◌≤◌, length, take}
 use Rattle.text.specs.Utf8.{encoded}
 use Rattle.text.proofs.decode.latin1_length.Given as goal
 
-abbrev pub invariant-loop-i : goal.invariant-loop-i
-invariant-loop-i l = (l.i ≤ length l.bytes) × (l.n ≤ length l.bytes + l.i) × (l.n + l.i ≡ length l.bytes + length (encoded (take l.i l.bytes)))
-
-abbrev pub decreases-loop-i : goal.decreases-loop-i
-decreases-loop-i l = length l.bytes - l.i
+abbrev pub invariant-loop-byte : goal.invariant-loop-byte
+invariant-loop-byte l =
+    (l.len ≤ length l.bytes + l.byte-index) × (l.len + l.byte-index ≡ length l.bytes + length (encoded (take l.byte-index l.bytes)))

@@ -1,26 +1,19 @@
--- Where one entry is left it has the key, or none has.
-use Rattle.std.proofs.Common.{sym, arith}
-use Rattle.text.specs.Mapping.{found, not_found}
-use Rattle.text.specs.MappingLaws.{lookup_none}
-use Rattle.text.proofs.Halving.{from, not_there, there}
+-- The closure gives an entry's key: what the search found is the entry with the key, or that there is none.
+use Rattle.std.proofs.Common.{[], Ok, Err, ap, arith, rules}
+use Rattle.std.proofs.lemmas.List.Sorted.{answers_always}
+use Rattle.text.specs.Mapping.{key_of}
+use Rattle.text.proofs.Searching.{below_all, searched}
 use Rattle.text.proofs.lookup.lookup.Goals as goal
 
-pub returns-then-size-eq0 : goal.returns-then-size-eq0
-unfolding not_found
-returns-then-size-eq0 c = sym (lookup_none c.args.key c.args.entries.now (λ j h z. absurd (omega arith)))
-
-pub returns-then-key-entries : goal.returns-then-key-entries
-unfolding not_found
-returns-then-key-entries c =
-    let a = c.args in
-    sym (lookup_none a.key a.entries.now (λ j h z. absurd (omega (arith, from a.entries.now a.key c.requires 0 c.if-key-entries.true j (omega arith) h))))
-
-pub returns-then-entries-base-2 : goal.returns-then-entries-base-2
-unfolding not_found
-returns-then-entries-base-2 c =
-    not_there c.args.entries.now c.args.key c.loop-size.base c.loop-size.size c.loop-size.invariant (omega arith) c.if-entries-base-2.true
-
 pub returns : goal.returns
-unfolding found
-returns c =
-    there c.args.entries.now c.args.key c.loop-size.base c.loop-size.size c.loop-size.invariant (omega arith) c.if-entries-base-2.false
+returns c = below_all c.args.entries.now c.requires c.args.key (omega (arith, c.if-key-first.true, ap key_of (c.in-Some.ensures.item.3.1 [])))
+
+pub returns-in-Ok : goal.returns-in-Ok
+returns-in-Ok c =
+    let found = c.in-Ok.ensures in
+    searched c.args.entries.now c.requires c.args.key (Ok c.in-Ok.at) found.bound (found.position key_of (answers_always _ _ _ (λ f a r g called. search rules)))
+
+pub returns-in-Err : goal.returns-in-Err
+returns-in-Err c =
+    let found = c.in-Err.ensures in
+    searched c.args.entries.now c.requires c.args.key (Err c.in-Err.field-0) found.bound (found.position key_of (answers_always _ _ _ (λ f a r g called. search rules)))

@@ -1,10 +1,9 @@
 -- What is left of the room, and what is left of the text.
-use Rattle.std.proofs.Common.{◌-◌, length}
-use Rattle.text.proofs.Measuring.{Measured}
+use Rattle.std.proofs.Common.{◌≡◌, ◌+◌, length}
+use Rattle.text.specs.Points.{points_left}
+use Rattle.text.specs.Utf8.{encoded}
 use Rattle.text.proofs.mapped.fits.Given as goal
 
-abbrev pub invariant-loop-i : goal.invariant-loop-i
-invariant-loop-i l = Measured l.words l.set l.bytes l.room l.left l.i
-
-abbrev pub decreases-loop-i : goal.decreases-loop-i
-decreases-loop-i l = length l.bytes - l.i
+abbrev pub invariant-loop-point : goal.invariant-loop-point
+invariant-loop-point l =
+    length (encoded (points_left l.fn.points)) + l.left ≡ l.room + length (encoded (points_left l.point-iterator))
