@@ -3,7 +3,7 @@
 use mathlib.Core.Path.{◌≡◌, refl, sym, ◌∙◌, ap}
 use Rattle.std.proofs.lemmas.List.{flat_map_more}
 use mathlib.Core.List.{List, [], ◌∷◌, ◌++◌, map, flat_map, map-append}
-use Prim.Native.Nat.{ℕ, ◌+◌, ◌≤◌}
+use Prim.Native.Nat.{ℕ, ◌+◌, ◌≤◌, ◌<◌, ◌^◌}
 use native.Mathlib.Numerals.{add-one}
 use native.Mathlib.Omega.{arith}
 use lib.ListN.{length, set, length-map}
@@ -23,6 +23,11 @@ use Rattle.area.specs.declared.warning.Warning.{Warning}
 pub few_tracks : (head : TableHead) → track_count head ≤ 255
 unfolding track_count
 few_tracks head = omega arith
+
+-- a count of lent words is a usize
+counted_fits : {A B : Type 0} (old : List A) (at : ℕ) (new : List B) → at < 2 ^ 64 → length old < 2 ^ 64 → counted old at new < 2 ^ 64
+unfolding counted
+counted_fits old at new h₁ h₂ = omega arith
 
 module _ (lent : List ℕ) (head : TableHead) where
   abbrev reads_to : ℕ → List TrackRead
@@ -44,6 +49,10 @@ module _ (lent : List ℕ) (head : TableHead) where
   module _ (old : List Track) (base : ℕ) where
     unfoldable pub tracks_to : ℕ → List Track
     tracks_to i = sets old base (tracks_of (reads_to i))
+
+    pub length_tracks : (i : ℕ) → length (tracks_to i) ≡ length old
+    unfolding tracks_to
+    length_tracks i = length-sets old base (tracks_of (reads_to i))
 
     pub tracks_none : tracks_to 0 ≡ old
     unfolding tracks_to tracks_of tabulate
@@ -68,7 +77,11 @@ module _ (lent : List ℕ) (head : TableHead) where
     unfoldable pub words_to : ℕ → List ℕ
     words_to i = sets old count (map word_of (warned_to i))
 
-    length_words : (i : ℕ) → length (words_to i) ≡ length old
+    pub count_fits : count < 2 ^ 64 → length old < 2 ^ 64 → (i : ℕ) → count_to i < 2 ^ 64
+    unfolding count_to
+    count_fits h₁ h₂ i = counted_fits old count (warned_to i) h₁ h₂
+
+    pub length_words : (i : ℕ) → length (words_to i) ≡ length old
     unfolding words_to
     length_words i = length-sets old count (map word_of (warned_to i))
 

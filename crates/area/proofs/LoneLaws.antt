@@ -197,3 +197,43 @@ module _ (table : List ℕ) (tracks : List Track) (words : List ℕ) (head : Tab
             all_written ∙ ap (λ (l : List Warning). fill 0 (map word_of l) words) its_warned ∙ ap (λ (l : Lone). lone_words l words) (sym reading),
           ),
         )
+
+-- ---- a lone table of any size, read into any room: a refusal changes nothing; of any other the warnings of its head are written first, then
+-- its tracks and their warnings. Answer, tracks and words are what reading gives
+module _ (table : List ℕ) (tracks : List Track) (words : List ℕ) (answer : TableAnswer) (filled : List Track) (written : List ℕ) where
+  abbrev Read : Lone → Type 0
+  Read l = (answer ≡ lone_answer l) × ((filled ≡ lone_tracks l tracks) × (written ≡ lone_words l words))
+
+  abbrev Refused : ℕ → Type 0
+  Refused number = (answer ≡ lone_answer (refused number)) × ((filled ≡ tracks) × (written ≡ words))
+
+  abbrev noted : List ℕ
+  noted = sets words 0 (map word_of (head_warnings lone_slot (lone_head table)))
+
+  abbrev at : ℕ
+  at = counted words 0 (head_warnings lone_slot (lone_head table))
+
+  abbrev Stepped : Type 0
+  Stepped = (answer ≡ head_answer (lone_head table) (counted noted at (warnings_in table (lone_head table))))
+      × ((filled ≡ sets tracks 0 (tracks_in table (lone_head table))) × (written ≡ sets noted at (map word_of (warnings_in table (lone_head table)))))
+
+  refused_read : (number : ℕ) → Refused number → Read (refused number)
+  unfolding lone_tracks lone_words
+  refused_read number r = r
+
+  head_read : is_odd_table (length table) ≡ false → lone_head table ≡ head_of (table_bytes (length table / sector_size) table) lone_slot 0 (length table / sector_size)
+  unfolding lone_sectors lone_head
+  head_read sized = ap (λ (bytes : List ℕ). head_of bytes lone_slot 0 (length table / sector_size)) (sym (lone_bytes table sized))
+
+  pub lone_read : (is_odd_table (length table) ≡ true → Refused odd_table)
+      → (is_odd_table (length table) ≡ false → is_short (length tracks) (length words) ≡ true → Refused short_buffer)
+      → (is_odd_table (length table) ≡ false → is_short (length tracks) (length words) ≡ false → Stepped)
+      → Read (lone_of table (length tracks) (length words))
+  lone_read odd short steps =
+      by_case table (length tracks) (length words) Read (λ e. refused_read odd_table (odd e)) (λ sized e. refused_read short_buffer (short sized e))
+      (λ sized room. subst Read (lone_reads table (length tracks) (length words) sized room) (read sized room (steps sized room)))
+    where
+      read : is_odd_table (length table) ≡ false → is_short (length tracks) (length words) ≡ false → Stepped → Read (lone_of table (length tracks) (length words))
+      read sized room s =
+          table_read table tracks words (lone_head table) noted written at (counted noted at (warnings_in table (lone_head table))) filled refl refl refl s.1.0 s.1.1
+          (enough_records _ _ room) (enough_words _ _ room) sized (head_read sized) answer s.0

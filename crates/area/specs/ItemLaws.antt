@@ -17,7 +17,9 @@ use Rattle.sectors.specs.Number.{be_at}
 use Rattle.text.specs.String.{string_at}
 use Rattle.text.proofs.StringLaws.{string_part, string_within}
 use Rattle.text.specs.WhileLaws.{scan_more, scan_stop, scan_end, while_length, while_passes, while_stops}
-use Rattle.area.specs.Items.{Item, item_at, is_zero, nonzero_at, next_item, items_from, draw_at, item_of}
+use Rattle.area.specs.Items.{Item, item_at, is_zero, nonzero_at, next_item, items_from, draw_at, item_of, item_then}
+use Rattle.area.specs.Cursor.{moved_past}
+use Rattle.area.specs.declared.cursor.TextCursor.{TextCursor}
 use Rattle.area.specs.declared.items.Drawn.{Drawn}
 
 -- an answer is none, or has one value
@@ -95,7 +97,7 @@ module _ (table : List ℕ) where
     }
 
     -- with its two bytes there, the item is drawn
-    draw_item : (left : ℕ) → at + 2 ≤ length table → draw_at table at (suc left) ≡ Some (drawn left)
+    pub draw_item : (left : ℕ) → at + 2 ≤ length table → draw_at table at (suc left) ≡ Some (drawn left)
     unfolding draw_at
     draw_item left two = simp (le-leb _ _ two)
 
@@ -196,3 +198,21 @@ module _ (table : List ℕ) where
       go : (t : Bool) → leb (at + 2) (length table) ≡ t → items_from table at (suc left) ≡ []
       go true is = absurd (none_some (drawn at left) (sym e ∙ draw_item at left (leb-true _ _ is)))
       go false is = items_short at (suc left) (leb-false _ _ is)
+
+module _ (c : TextCursor) where
+  abbrev draw : Option Drawn
+  draw = draw_at c.table.now c.next c.left
+
+  -- a draw that finds none leaves the cursor where it is
+  pub draw_stays : draw ≡ None → ((moved_past c draw).next ≡ c.next) × ((moved_past c draw).left ≡ c.left)
+  unfolding moved_past
+  draw_stays e = let stays = ap (moved_past c) e in (ap (λ (d : TextCursor). d.next) stays, ap (λ (d : TextCursor). d.left) stays)
+
+  -- the walk unfolds by a draw: the item that it finds, and the items from where the cursor then stands
+  pub items_draw : items_from c.table.now c.next c.left ≡ item_then draw (items_from c.table.now (moved_past c draw).next (moved_past c draw).left)
+  unfolding item_then moved_past
+  items_draw = go draw refl
+    where
+      go : (o : Option Drawn) → draw ≡ o → items_from c.table.now c.next c.left ≡ item_then o (items_from c.table.now (moved_past c o).next (moved_past c o).left)
+      go None e = items_undrawn c.table.now c.next c.left e
+      go (Some d) e = items_drawn c.table.now c.next c.left d e

@@ -1,5 +1,5 @@
 -- What a table gives (01, "Area", from the signature on). Assumes nothing.
-use Rattle.std.specs.Prelude.{ℕ, min, cond, not, ltb, eqb, option_map, option_to_list}
+use Rattle.std.specs.Prelude.{Option, ℕ, min, cond, not, ltb, eqb, option_map, option_to_list}
 use mathlib.Core.List.{List, [], ◌∷◌, ◌++◌, map, flat_map}
 use Rattle.area.specs.Tabulate.{tabulate}
 use Rattle.area.specs.Lent.{when_true}
@@ -38,6 +38,10 @@ frequency_warnings slot area = when_true (not (eqb area.sample_frequency_code ds
 -- a warning of a track
 unfoldable pub of_track : ℕ → ℕ → TrackRead → Warning
 of_track code slot read = record { code = code; slot = slot; track = read.track.number }
+
+-- the warning of a track with a code, if there is one
+unfoldable pub coded : ℕ → ℕ → Option WarningCode → Option Warning
+coded slot track code = option_map (λ (n : WarningCode). record { code = number_of n; slot = slot; track = track }) code
 
 -- 12 or 13 of a track's text, or none
 unfoldable pub text_warnings : ℕ → TrackRead → List Warning

@@ -1,9 +1,9 @@
 // What a table gives: its area's record or the skip, and its tracks one by one, with their warnings.
-ghost use Rattle.std.specs.Prelude.{◌≡◌, map};
+ghost use Rattle.std.specs.Prelude.{◌≡◌, map, option_to_list};
 ghost use Rattle.std.proofs.lemmas.List.Edits.{sets};
 ghost use Rattle.area.specs.Lent.{counted};
 ghost use Rattle.area.specs.Limits.{table_size, table_bytes};
-ghost use Rattle.area.specs.Table.{head_of, no_head, head_warnings, track_warnings, track_count, read_in};
+ghost use Rattle.area.specs.Table.{coded, head_of, no_head, head_warnings, track_warnings, track_count, read_in};
 ghost use Rattle.area.specs.Warning.{word_of};
 
 use crate::area::{Area, no_area, record_of};
@@ -94,28 +94,44 @@ pub fn push_head(words: &mut [u32], count: usize, slot: u8, head: TableHead) -> 
     )
 }
 
+// Writes the warning of a track with a code, if there is one.
+#[tactic(auto, unfolding(crate::specs::Table::coded))]
+fn push_code(
+    words: &mut [u32],
+    count: usize,
+    slot: u8,
+    track: u8,
+    code: Option<WarningCode>,
+) -> usize
+    ensures written { words.new ≡ sets words.old count (map word_of (option_to_list (coded slot track code))) }
+    ensures counted { result ≡ counted words.old count (option_to_list (coded slot track code)) }
+{
+    let warning = code.map(|code| Warning {
+        code: u8::from(code),
+        slot,
+        track,
+    });
+    push(words, count, warning)
+}
+
 // Writes the warnings of a track: past the play time, outside the area, its text's, then that of a text without a zero byte.
+// (One by one: as a loop over the four codes it took a table of many tracks half again as long.)
 fn push_track(words: &mut [u32], count: usize, slot: u8, read: TrackRead) -> usize
     ensures written { words.new ≡ sets words.old count (map word_of (track_warnings slot read)) }
     ensures counted { result ≡ counted words.old count (track_warnings slot read) }
 {
-    let codes = [
-        read.past_playtime.then_some(WarningCode::TrackPastPlaytime),
-        read.outside_area
-            .then_some(WarningCode::TrackLsnOutsideArea),
-        read.text_warning,
-        any_unterminated(read.track.text).then_some(WarningCode::TrackTextUnterminated),
-    ];
-    let mut written = count;
-    for code in codes {
-        let warning = code.map(|code| Warning {
-            code: u8::from(code),
-            slot,
-            track: read.track.number,
-        });
-        written = push(words, written, warning);
-    }
-    written
+    let number = read.track.number;
+    let past = read.past_playtime.then_some(WarningCode::TrackPastPlaytime);
+    let outside = read
+        .outside_area
+        .then_some(WarningCode::TrackLsnOutsideArea);
+    let unterminated = any_unterminated(read.track.text).then_some(
+        WarningCode::TrackTextUnterminated,
+    );
+    let n = push_code(words, count, slot, number, past);
+    let m = push_code(words, n, slot, number, outside);
+    let k = push_code(words, m, slot, number, read.text_warning);
+    push_code(words, k, slot, number, unterminated)
 }
 
 // The head of no table.

@@ -51,10 +51,14 @@ pub fn text_place_at(table: &[u8], at: usize) -> TextPlace
     text_at(table.len(), offset as u32, len)
 }
 
-// Whether one of a track's texts ended by other than a zero byte.
+// Whether one of a track's texts ended by other than a zero byte. (Not inlined, and without a branch: so the records of tracks are copied as wholes,
+// and not each text's place and end by themselves.)
+#[inline(never)]
 #[tactic(auto, unfolding(crate::specs::TextPlaces::any_unterminated, crate::specs::TextPlaces::is_unterminated))]
 pub(crate) fn any_unterminated(texts: [TextPlace; TRACK_TEXTS]) -> bool
     ensures { result ≡ any_unterminated texts }
 {
-    texts.iter().any(|text| text.end != NO_END && text.end != StringEnd::ZeroByte as u8)
+    texts.iter().fold(false, |any, text| {
+        any | ((text.end != NO_END) & (text.end != StringEnd::ZeroByte as u8))
+    })
 }

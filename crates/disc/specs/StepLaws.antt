@@ -3,7 +3,7 @@
 use Rattle.std.proofs.Math.Path.{◌≡◌, sym, ap}
 use Rattle.std.proofs.Common.{◌∙◌, zero-add}
 use Rattle.std.proofs.Math.Bool.{cond}
-use Rattle.std.specs.Prelude.{◌||◌, ℕ, ◌+◌, ◌≤◌}
+use Rattle.std.specs.Prelude.{◌||◌, ℕ, ◌+◌, ◌≤◌, Result, Ok, Err, IfOk, OnOk, IfErr, OnErr}
 use mathlib.Core.List.{List, ◌++◌, map}
 use Rattle.std.proofs.Math.Option.{Option}
 use native.Mathlib.Omega.{arith}
@@ -26,6 +26,7 @@ use Rattle.sectors.specs.Source.{Source, image_source}
 use Rattle.sectors.proofs.SourceLaws.{image_count, image_sized}
 use Rattle.disc.specs.Slot.{Slot, slot_number, two_channel, multichannel, master_region, tracks_at, region_of, tracks_from}
 use Rattle.disc.specs.Master.{master_lsn, master_sectors, master_bytes, pointer_of, master_of}
+use Rattle.disc.specs.Refusal.{number_of, refused_by, number_some}
 use Rattle.disc.specs.Copies.{copies_of, has_area, area_in, tracks_in, slot_table, slot_warnings}
 use Rattle.disc.specs.Outcome.{Memory, Outcome, is_present}
 use Rattle.disc.specs.Disc.{Master, refused, reads, image_master, master_copies_differ, disc_warnings, warnings_of, refusal, silent, accepted, answer_of, table_of, work_after, tracks_after, words_after, reading_of, outcome_of, read_disc}
@@ -36,6 +37,7 @@ use Rattle.disc.specs.SlotLaws.{slot_area, slot_present, slot_tracks_lem, slot_n
 use Rattle.disc.specs.WarningBounds.{disc_warnings_few, warnings_fit}
 use Rattle.disc.specs.declared.answer.DiscAnswer.{DiscAnswer}
 use Rattle.disc.specs.declared.disc.Opened.{Opened}
+use Rattle.disc.specs.declared.refusal.DiscRefusal.{DiscRefusal}
 use Rattle.disc.specs.declared.copies.SlotCopies.{SlotCopies}
 use Rattle.disc.specs.declared.disc.SlotRead.{SlotRead}
 use Rattle.disc.specs.declared.judge.SlotPlan.{SlotPlan}
@@ -99,7 +101,7 @@ disc_refused format image m number = go (image_master format image (length m.wor
     go (refused n) e some = λ i. record { answer = refusal (e i); memory = m }
     go (reads table) e some = absurd (some e)
 
--- ---- the disc
+-- ---- a disc that is not refused
 module _ (format : ℕ) (image work : List ℕ) (tracks : List Track) (words : List ℕ) (opened : Opened) (work₁ words₁ : List ℕ) (first second : SlotRead)
     (tracks₁ tracks₂ : List Track) (words₂ words₃ : List ℕ) (answer : DiscAnswer)
     (unrefused : refusal_of (image_master format image (length work) (length tracks) (length words)) ≡ 0)
@@ -279,9 +281,36 @@ module _ (format : ℕ) (image work : List ℕ) (tracks : List Track) (words : L
       ∙ ap (λ (n : ℕ). answer_of format n table (length all) (table_for two_channel) (table_for multichannel)) (sym (image_count format image))
 
   -- opened, read and answered: the reading of the disc
-  pub disc_read : ◌≡◌ {A = Outcome} (record { answer = answer; memory = record { work = work₁; tracks = tracks₂; words = words₃ } }) (read_disc format image memory)
+  pub disc_opened : ◌≡◌ {A = Outcome} (record { answer = answer; memory = record { work = work₁; tracks = tracks₂; words = words₃ } }) (read_disc format image memory)
   unfolding read_disc outcome_of reading_of table_of
-  disc_read =
+  disc_opened =
       let read : (record { answer = answer; memory = record { work = work₁; tracks = tracks₂; words = words₃ } }) ≡ reading_of source table format memory =
       λ i. record { answer = answered i; memory = record { work = work_so i; tracks = tracks_filled i; words = words_filled i } } in
       read ∙ sym (ap (outcome_of source format memory) open_so.is_read)
+
+-- ---- the disc, refused or not: what `open` answers, and what is read on of it
+module _ (format : ℕ) (image work : List ℕ) (tracks : List Track) (words work₁ words₁ : List ℕ) (first second : SlotRead)
+    (tracks₁ tracks₂ : List Track) (words₂ words₃ : List ℕ) (answer : DiscAnswer) where
+  -- opened, read and answered, or refused and left as it was: the reading of the disc
+  pub disc_read : (opened : Result Opened DiscRefusal)
+      → refused_by opened ≡ refusal_of (image_master format image (length work) (length tracks) (length words))
+      → IfOk opened (λ o. o ≡ opened_of (image_source format image) (run_data format image master_lsn master_sectors))
+      → OnOk opened (work₁ ≡ work_after (image_source format image) (run_data format image master_lsn master_sectors) work)
+      → OnOk opened (words₁ ≡ opened_words (image_source format image) (run_data format image master_lsn master_sectors) words)
+      → OnErr opened ((work₁ ≡ work) × (words₁ ≡ words))
+      → IfOk opened (λ o. first ≡ slot_read_by work₁ 1 o.first words₁ o.count)
+      → IfOk opened (λ o. tracks₁ ≡ sets tracks (tracks_from 1) (slot_tracks work₁ 1 o.first))
+      → IfOk opened (λ o. words₂ ≡ sets words₁ o.count (map word_of (slot_notes work₁ 1 o.first)))
+      → IfOk opened (λ o. second ≡ slot_read_by work₁ 2 o.second words₂ first.count)
+      → IfOk opened (λ o. tracks₂ ≡ sets tracks₁ (tracks_from 2) (slot_tracks work₁ 2 o.second))
+      → IfOk opened (λ o. words₃ ≡ sets words₂ first.count (map word_of (slot_notes work₁ 2 o.second)))
+      → OnOk opened (answer ≡ answer_from format (length image) work₁ first second)
+      → IfErr opened (λ e. answer ≡ refusal (number_of e)) → OnErr opened ((tracks₂ ≡ tracks) × (words₃ ≡ words₁))
+      → ◌≡◌ {A = Outcome} (record { answer = answer; memory = record { work = work₁; tracks = tracks₂; words = words₃ } })
+      (read_disc format image (record { work = work; tracks = tracks; words = words }))
+  unfolding refused_by
+  disc_read (Ok opened) n o w d k r t u r' t' u' a e s =
+      disc_opened format image work tracks words opened work₁ words₁ first second tracks₁ tracks₂ words₂ words₃ answer (sym n) o w d r t u r' t' u' a
+  disc_read (Err number) n o w d k r t u r' t' u' a e s =
+      (λ i. record { answer = e i; memory = record { work = k.0 i; tracks = s.0 i; words = (s.1 ∙ k.1) i } })
+      ∙ disc_refused format image (record { work = work; tracks = tracks; words = words }) (number_of number) n (number_some number)

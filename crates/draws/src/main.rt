@@ -1,7 +1,7 @@
 // The items of the table on standard input, drawn from a cursor: those of each track, the end, and the end again.
 #![tactic(auto)]
 
-ghost use Rattle.std.specs.Prelude.{◌<◌, ◌^◌};
+ghost use Rattle.std.specs.Prelude.{◌≡◌, ◌<◌, ◌^◌, IfOk, is_some};
 
 use area::cursor::{TextItem, count_items, draw, text_cursor};
 use area::table::table_head;
@@ -18,14 +18,37 @@ const TABLE_SECTORS: u16 = 5;
 
 const TRACKS: u8 = 8;
 
-// Writes what a draw gave: an item's type byte and string, or the end.
-fn print_item(rt: &impl Print, item: Option<TextItem<'_>>) -> io::Result<()> {
+// Writes what a draw gave: an item's type byte and string, or the end. Whether it was an item.
+fn print_item(rt: &impl Print, item: Option<TextItem<'_>>) -> io::Result<bool>
+    ensures { IfOk result (λ found. found ≡ is_some item.entry) }
+{
     let Some(item) = item else {
-        return println!(rt; "end");
+        println!(rt; "end")?;
+        return Ok(false);
     };
     print!(rt; "item {} ", item.kind)?;
     rt.write_all(item.text)?;
-    println!(rt; "")
+    println!(rt; "")?;
+    Ok(true)
+}
+
+// Draws so many times from one cursor, and writes each answer. How many it wrote.
+fn print_draws(
+    rt: &impl Print,
+    table: &[u8],
+    next: usize,
+    left: usize,
+    times: usize,
+) -> io::Result<usize>
+    ensures { IfOk result (λ written. written ≡ times) }
+{
+    let mut cursor = text_cursor(table, next, left);
+    let mut written = 0;
+    for _ in 0..times {
+        print_item(rt, draw(&mut cursor))?;
+        written += 1;
+    }
+    Ok(written)
 }
 
 // Where the text of a track of an index stands.
@@ -43,10 +66,7 @@ fn print_text(rt: &impl Print, table: &[u8], i: u8) -> io::Result<()> {
     let left = byte_at(table, at) as usize;
     let count = count_items(table, at + 4, left);
     println!(rt; "text {count}")?;
-    let mut cursor = text_cursor(table, at + 4, left);
-    for _ in 0..count.saturating_add(2) {
-        print_item(rt, draw(&mut cursor))?;
-    }
+    print_draws(rt, table, at + 4, left, count.saturating_add(2))?;
     Ok(())
 }
 

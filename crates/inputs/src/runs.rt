@@ -1,7 +1,6 @@
 // Tables stored as runs. A table is a row of records: place and count, four bytes each, big-endian, then so many bytes that stand at that
 // place. All others are zero. A count of 0 ends the table, and its place is the table's length.
 ghost use Rattle.std.specs.Prelude.{◌≡◌, ℕ, ◌<◌, ◌≤◌, ◌^◌, ◌++◌, List, length, IfOk, IfSome, Some};
-ghost use Rattle.std.specs.Int.{to_be_bytes, w32};
 ghost use Rattle.inputs.specs.Runs.{Run, head, recorded, stored, laid, laid_all, IsWithin, IsStored, kind_of, EndsWithin};
 
 use crate::full::read_full;
@@ -15,32 +14,22 @@ enum Record {
     End(usize),
 }
 
-// The next number; none where the input ends before.
-fn read_number<R: Read>(input: &mut R) -> io::Result<Option<u32>>
-    ensures { (n : ℕ) (rest : List ℕ) → n < 2 ^ 32 → R.remaining input.old ≡ Some (to_be_bytes w32 n ++ rest)
-        → IfOk result (λ found. (found ≡ Some n) × (R.remaining input.new ≡ Some rest)) }
-{
-    let mut bytes = [0u8; 4];
-    if read_full(input, &mut bytes)? < bytes.len() {
-        return Ok(None);
-    }
-    Ok(Some(u32::from_be_bytes(bytes)))
-}
+// Bytes of a record's head: its place and its count.
+const HEAD_BYTES: usize = 8;
 
 // Place and count of the next record; none where the input ends before.
-#[tactic(auto, unfolding(crate::specs::Runs::head))]
 fn read_head<R: Read>(input: &mut R) -> io::Result<Option<(usize, usize)>>
     ensures small { IfOk result (λ found. IfSome found (λ head. (head.0 < 2 ^ 32) × (head.1 < 2 ^ 32))) }
     ensures known { (place count : ℕ) (rest : List ℕ) → place < 2 ^ 32 → count < 2 ^ 32
         → R.remaining input.old ≡ Some (head place count ++ rest)
         → IfOk result (λ found. (found ≡ Some (record { 0 = place; 1 = count })) × (R.remaining input.new ≡ Some rest)) }
 {
-    let Some(place) = read_number(input)? else {
+    let mut head = [0u8; HEAD_BYTES];
+    if read_full(input, &mut head)? < HEAD_BYTES {
         return Ok(None);
-    };
-    let Some(count) = read_number(input)? else {
-        return Ok(None);
-    };
+    }
+    let place = u32::from_be_bytes(*head.first_chunk().unwrap());
+    let count = u32::from_be_bytes(*head.last_chunk().unwrap());
     Ok(Some((place as usize, count as usize)))
 }
 

@@ -1,7 +1,7 @@
 -- Laws of `same`: it tells lists apart exactly when they differ, and goes through parts. Assumes nothing.
-use Rattle.std.specs.Prelude.{◌≡◌, ℕ, Bool, true, false, not, ◌&&◌, List, [], ◌∷◌, ◌++◌, length, ◌==◌, refl}
-use Rattle.std.proofs.Common.{arith, sym, ap, ◌∙◌}
-use Rattle.std.proofs.Math.Bool.{and_assoc}
+use Rattle.std.specs.Prelude.{◌≡◌, ℕ, ◌+◌, ◌<◌, Bool, true, false, not, ◌&&◌, List, [], ◌∷◌, ◌++◌, length, take, ◌==◌, slice_index, refl}
+use Rattle.std.proofs.Common.{add-one, le_of_lt, arith, sym, ap, ◌∙◌, length-take-le, take-suc}
+use Rattle.std.proofs.Math.Bool.{and_assoc, and-true}
 use Rattle.std.proofs.lemmas.Slice.Eq.{bytes_eq-Decides}
 use Rattle.sectors.specs.Bytes.{same}
 
@@ -38,3 +38,13 @@ same_append [] [] c d e = refl
 same_append [] (y ∷ ys) c d e = absurd (omega arith)
 same_append (x ∷ xs) [] c d e = absurd (omega arith)
 same_append (x ∷ xs) (y ∷ ys) c d e = rw (same_append xs ys c d (omega arith)) (sym (and_assoc (x == y) (same xs ys) (same c d)))
+
+-- one byte more
+pub same_more : (a b : List ℕ) (i : ℕ) → i < length a → i < length b
+    → same (take (i + 1) a) (take (i + 1) b) ≡ (same (take i a) (take i b) && slice_index a i == slice_index b i)
+unfolding same
+same_more a b i ha hb =
+    let la = length-take-le i a (le_of_lt ha) in
+    let lb = length-take-le i b (le_of_lt hb) in
+    rw (add-one, take-suc a i 0, take-suc b i 0, same_append (take i a) (take i b) (slice_index a i ∷ []) (slice_index b i ∷ []) (la ∙ sym lb))
+    (ap (λ (t : Bool). same (take i a) (take i b) && t) (and-true (slice_index a i == slice_index b i)))

@@ -1,18 +1,30 @@
 -- Laws of a copy into lent memory: what fits is copied whole, and what a program leaves that copies what fits. Assumes nothing.
-use Rattle.std.specs.Prelude.{◌≡◌, ℕ, ◌+◌, ◌-◌, ◌<◌, ◌≤◌, min, Bool, true, false, List, ◌++◌, length, take, drop, replicate, nat_le, nat_lt, slice_index, refl}
-use Rattle.std.proofs.Common.{sym, ap, ◌∙◌, append-nil, le_of_eq, arith, drop_of_length-le, length-take-le, take_all, leb-true, leb-false, ltb-true, ltb-false}
+use Rattle.std.specs.Prelude.{◌≡◌, ℕ, ◌+◌, ◌-◌, ◌<◌, ◌≤◌, min, Bool, true, false, List, ◌++◌, length, take, drop, replicate, nat_le, nat_lt, slice_index, slice_index_or, slice_set, refl}
+use Rattle.std.proofs.Common.{sym, ap, ◌∙◌, add-one, append-nil, le_of_eq, arith, drop_of_length-le, length-take-le, take-suc, take_all, leb-true, leb-false, ltb-true, ltb-false}
 use Rattle.std.proofs.lemmas.List.{get_or-replicate}
 use Rattle.std.proofs.Math.ListN.{get_or-append, get_or-eq_default, length-replicate}
 use Rattle.std.proofs.Math.Seq.{get_or-append_right, get_or-drop}
 use borrow.Rule.Slice.PartMut.{put_mid}
 use Rattle.sectors.specs.Fill.{fill, copy_into}
-use Rattle.sectors.specs.FillLaws.{take_cut, put_fill, fill_front, fill_none}
+use Rattle.sectors.specs.FillLaws.{take_cut, put_fill, fill_front, fill_none, fill_one}
 
 module _ {A : Type 0} (at : ℕ) (new old : List A) where
   -- what fits is copied whole
   pub copy_whole : at + length new ≤ length old → copy_into at new old ≡ fill at new old
   unfolding copy_into
   copy_whole h = rw (take_all (length old - at) new (omega arith))
+
+  -- element i is stored behind those before it
+  pub copy_more : (i : ℕ) (d : A) → i < length new → at + i < length old
+      → slice_set (fill at (take i new) old) (at + i) (slice_index_or new i d) ≡ fill at (take (i + 1) new) old
+  copy_more i d h room =
+      let l = length-take-le i new (omega arith) in
+      rw (add-one, take-suc new i d) (rw l at (fill_one at (take i new) old (omega arith) (slice_index_or new i d) (omega arith)))
+
+  -- as many are stored as fit
+  pub copy_all : (i : ℕ) → i ≡ min (length old - at) (length new) → fill at (take i new) old ≡ copy_into at new old
+  unfolding copy_into
+  copy_all i e = rw (e, take_cut (length old - at) new)
 
   -- from a place past the end nothing fits
   copy_past : length old ≤ at → copy_into at new old ≡ old

@@ -8,6 +8,7 @@ ghost use Rattle.sectors.specs.Source.{run_of};
 ghost use Rattle.sectors.specs.Pool.{source_of, source_start};
 ghost use Rattle.sectors.specs.Run.{run_into, run_unequal};
 
+use crate::bytes::copy_bytes;
 use crate::pool::{Rips, has_pooled_run, pooled_count, pooled_sector, rip_data, rip_of};
 use crate::sector::{
     Image, Lsn, SECTOR_SIZE, contains, has_room, sector_count, sector_data, stored_data,
@@ -76,7 +77,7 @@ pub(crate) fn copy_run(source: Source, lsn: Lsn, count: usize, buf: &mut [u8], a
     for k in 0..count {
         let data = source_data(source, lsn.0 as usize + k);
         let to = at + k * SECTOR_SIZE;
-        buf[to..to + SECTOR_SIZE].copy_from_slice(data);
+        copy_bytes(data, &mut buf[to..to + SECTOR_SIZE], 0);
     }
 }
 

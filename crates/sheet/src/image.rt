@@ -1,4 +1,6 @@
 // Disc images of format 0: a master table and area tables, in sectors that are zero otherwise.
+ghost use Rattle.std.specs.Prelude.{◌≡◌, length};
+
 use sectors::bytes::copy_bytes;
 use sectors::sector::SECTOR_SIZE;
 
@@ -9,6 +11,13 @@ pub(crate) const MASTER_END: usize = 520 * SECTOR_SIZE;
 
 // Bytes of an image: three sectors more.
 pub(crate) const IMAGE_BYTES: usize = MASTER_END + 3 * SECTOR_SIZE;
+
+// An image of zeros. (Its length stands in the contract, since a proof that has the array before it counts its elements.)
+pub(crate) fn zeros() -> [u8; IMAGE_BYTES]
+    ensures { 1071104 ≡ length result }
+{
+    [0; IMAGE_BYTES]
+}
 
 // What the master table says of a slot; zeros if it is not used.
 #[derive(Clone, Copy, Default)]

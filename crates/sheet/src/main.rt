@@ -6,9 +6,8 @@ mod image;
 mod print;
 
 use disc::regions::{WARNING_WORDS, WORK_BYTES};
-use image::{IMAGE_BYTES, MASTER_END, Pointer, put, put_master, put_number, put_table};
+use image::{IMAGE_BYTES, MASTER_END, Pointer, put, put_master, put_number, put_table, zeros};
 use print::{print_format, print_reading, print_refusal};
-use std::alloc::Global;
 use std::io;
 use std::io::{BufWriter, Write};
 
@@ -80,33 +79,32 @@ fn put_one_sector(image: &mut [u8]) {
 // Writes a run's name, and what is read of its image cut to so many bytes, for each of the lengths.
 fn print_run<P: FnOnce(&mut [u8]) + Drop>(
     out: &mut impl Write,
-    alloc: Global,
     name: &str,
     put: P,
     lengths: &[usize],
 ) -> io::Result<()>
     requires { P.IsAlwaysCallable put }
 {
-    let mut image = vec![in alloc; 0u8; IMAGE_BYTES]?;
+    let mut image = zeros();
     put(&mut image);
     writeln!(out, "{name}")?;
     for n in lengths {
-        print_reading(out, alloc, &image[..IMAGE_BYTES.min(*n)])?;
+        print_reading(out, &image[..IMAGE_BYTES.min(*n)])?;
     }
     Ok(())
 }
 
 // One work byte or one warning word too few: 2. Enough of both: 3, for an image without a sector.
-fn short_buffers(out: &mut impl Write, alloc: Global) -> io::Result<()> {
+fn short_buffers(out: &mut impl Write) -> io::Result<()> {
     writeln!(out, "short_buffers")?;
-    print_refusal(out, alloc, WORK_BYTES - 1, WARNING_WORDS)?;
-    print_refusal(out, alloc, WORK_BYTES, WARNING_WORDS - 1)?;
-    print_refusal(out, alloc, WORK_BYTES, WARNING_WORDS)
+    print_refusal(out, WORK_BYTES - 1, WARNING_WORDS)?;
+    print_refusal(out, WORK_BYTES, WARNING_WORDS - 1)?;
+    print_refusal(out, WORK_BYTES, WARNING_WORDS)
 }
 
 // The master table's signature where LSN 510 begins in format 1, then in 2 too, then in 0 too: of 1 and 2 it is 2 that is found.
-fn detection_order(out: &mut impl Write, alloc: Global) -> io::Result<()> {
-    let mut image = vec![in alloc; 0u8; IMAGE_BYTES]?;
+fn detection_order(out: &mut impl Write) -> io::Result<()> {
+    let mut image = zeros();
     writeln!(out, "detection_order")?;
     print_format(out, &image)?;
     for (lsn, offset) in [(511, 1018), (513, 2028), (510, 0)] {
@@ -116,32 +114,30 @@ fn detection_order(out: &mut impl Write, alloc: Global) -> io::Result<()> {
     Ok(())
 }
 
-fn runs(out: &mut impl Write, alloc: Global) -> io::Result<()> {
+fn runs(out: &mut impl Write) -> io::Result<()> {
     // Cut inside the last sector of the master table, then inside that of the first copy: half a sector is none.
     let cuts = [MASTER_END - 1024, IMAGE_BYTES - 1024];
-    print_run(out, alloc, "sheet_cut", put_copies, &cuts)?;
+    print_run(out, "sheet_cut", put_copies, &cuts)?;
     // With both copies, then without the first.
     let copies = [IMAGE_BYTES, MASTER_END];
-    print_run(out, alloc, "sheet_copy", put_copies, &copies)?;
+    print_run(out, "sheet_copy", put_copies, &copies)?;
     let whole = [IMAGE_BYTES];
-    print_run(out, alloc, "sheet_playtime", put_overrun, &whole)?;
+    print_run(out, "sheet_playtime", put_overrun, &whole)?;
     // A table of 128 sectors is read; one of 129 is skipped, and the other slot's is read.
     print_run(
         out,
-        alloc,
         "sectors_128",
         |image| put_one_table(image, 128),
         &whole,
     )?;
-    print_run(out, alloc, "sectors_129", put_large, &whole)?;
-    print_run(out, alloc, "equal_lsns", put_one_sector, &whole)
+    print_run(out, "sectors_129", put_large, &whole)?;
+    print_run(out, "equal_lsns", put_one_sector, &whole)
 }
 
 fn main(rt: HostRuntime) -> io::Result<()> {
-    let alloc = rt.alloc();
-    let mut out = BufWriter::new(alloc, rt.stdout())?;
-    runs(&mut out, alloc)?;
-    short_buffers(&mut out, alloc)?;
-    detection_order(&mut out, alloc)?;
+    let mut out = BufWriter::new(rt.alloc(), rt.stdout())?;
+    runs(&mut out)?;
+    short_buffers(&mut out)?;
+    detection_order(&mut out)?;
     out.flush()
 }

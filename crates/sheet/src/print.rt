@@ -1,4 +1,6 @@
 // What is read of a disc image, written in lines.
+ghost use Rattle.std.specs.Prelude.{◌≡◌, length};
+
 use area::area::Area;
 use area::table::MAX_TRACKS;
 use area::track::Track;
@@ -6,7 +8,6 @@ use disc::answer::DiscAnswer;
 use disc::detect::{DetectAnswer, detect_format};
 use disc::regions::{TRACK_RECORDS, WARNING_WORDS, WORK_BYTES};
 use disc_values::reading::{no_tracks, read_disc_by_value};
-use std::alloc::Global;
 use std::io;
 use std::io::Write;
 
@@ -70,10 +71,17 @@ fn print_areas(
     print_area(out, &answer.multichannel, &tracks[MAX_TRACKS..])
 }
 
+// Work bytes of zeros.
+pub(crate) fn blank_work() -> [u8; WORK_BYTES]
+    ensures { 544768 ≡ length result }
+{
+    [0; WORK_BYTES]
+}
+
 // Reads a disc image and writes what was read.
-pub(crate) fn print_reading(out: &mut impl Write, alloc: Global, image: &[u8]) -> io::Result<()> {
-    let mut work = vec![in alloc; 0u8; WORK_BYTES]?;
-    let mut words = vec![in alloc; 0u32; WARNING_WORDS]?;
+pub(crate) fn print_reading(out: &mut impl Write, image: &[u8]) -> io::Result<()> {
+    let mut work = blank_work();
+    let mut words = [0u32; WARNING_WORDS];
     let reading = read_disc_by_value(PLAIN, image, &mut work, no_tracks(), &mut words);
     print_answer(out, image.len(), &reading.answer)?;
     print_warnings(out, &words, reading.answer.warnings)?;
@@ -81,15 +89,16 @@ pub(crate) fn print_reading(out: &mut impl Write, alloc: Global, image: &[u8]) -
 }
 
 // A line of how many bytes and words are lent, and the refusal of an image without a sector that is read with them.
-pub(crate) fn print_refusal(
-    out: &mut impl Write,
-    alloc: Global,
-    bytes: usize,
-    count: usize,
-) -> io::Result<()> {
-    let mut work = vec![in alloc; 0u8; bytes]?;
-    let mut words = vec![in alloc; 0u32; count]?;
-    let reading = read_disc_by_value(PLAIN, b"", &mut work, no_tracks(), &mut words);
+pub(crate) fn print_refusal(out: &mut impl Write, bytes: usize, count: usize) -> io::Result<()> {
+    let mut work = blank_work();
+    let mut words = [0u32; WARNING_WORDS];
+    let reading = read_disc_by_value(
+        PLAIN,
+        b"",
+        &mut work[..bytes.min(WORK_BYTES)],
+        no_tracks(),
+        &mut words[..count.min(WARNING_WORDS)],
+    );
     writeln!(
         out,
         "work {bytes} words {count} refusal {}",

@@ -7,6 +7,8 @@ mod numbers;
 mod records;
 mod texts;
 
+ghost use Rattle.std.specs.Prelude.{◌≡◌, length};
+
 use crate::records::{put_area, put_master, put_track};
 use crate::texts::{put_area_texts, put_disc_texts, put_track_texts};
 use area::area::Area;
@@ -20,7 +22,6 @@ use inputs::full::read_full;
 use inputs::runs::read_runs;
 use sectors::fnv::digest;
 use sectors::number::be32_at;
-use std::alloc::Global;
 use std::io;
 use std::io::{BufReader, BufWriter, Read, Write};
 use text::string::string_bytes;
@@ -43,7 +44,8 @@ const UNREAD: u8 = 90;
 fn put_warnings(out: &mut impl Write, words: &[u32], count: usize) -> io::Result<()> {
     for word in words.iter().take(count) {
         let [_, code, slot, track] = word.to_be_bytes();
-        writeln!(out, "warning {code} {slot} {track}")?;
+        write!(out, "warning")?;
+        writeln!(out, " {code} {slot} {track}")?;
     }
     Ok(())
 }
@@ -89,44 +91,53 @@ fn put_records(out: &mut impl Write, work: &[u8], reading: &Reading) -> io::Resu
     put_slot(out, work, reading, &answer.multichannel, second)
 }
 
+// Work bytes as they are before a disc is read. (Their length stands in the contract, since a proof that has the array before it counts its
+// elements.)
+fn unread() -> [u8; WORK_BYTES]
+    ensures { 544768 ≡ length result }
+{
+    [UNREAD; WORK_BYTES]
+}
+
 // Reads a disc and writes its name and its answer, and the digest of the work bytes.
-fn put_disc(
-    out: &mut impl Write,
-    alloc: Global,
-    name: &[u8],
-    format: u32,
-    image: &[u8],
-) -> io::Result<()> {
-    let mut work = vec![in alloc; UNREAD; WORK_BYTES]?;
-    let mut words = vec![in alloc; 0u32; WARNING_WORDS]?;
+fn put_disc(out: &mut impl Write, name: &[u8], format: u32, image: &[u8]) -> io::Result<()> {
+    let mut work = unread();
+    let mut words = [0u32; WARNING_WORDS];
     let reading = read_disc_by_value(format, image, &mut work, no_tracks(), &mut words);
     put_head(out, name, &reading.answer)?;
     put_warnings(out, &words, reading.answer.warnings)?;
     put_records(out, &work, &reading)?;
-    writeln!(out, "work {}", digest(&work))
+    write!(out, "work")?;
+    writeln!(out, " {}", digest(&work))
+}
+
+// An image of zeros.
+fn zeros() -> [u8; IMAGE_BYTES]
+    ensures { 1500000 ≡ length result }
+{
+    [0u8; IMAGE_BYTES]
 }
 
 // Reads the next disc on standard input and writes its answer; whether there was one.
-fn replay_next(input: &mut impl Read, out: &mut impl Write, alloc: Global) -> io::Result<bool> {
+fn replay_next(input: &mut impl Read, out: &mut impl Write) -> io::Result<bool> {
     let mut head = [0u8; HEAD_BYTES];
     if read_full(input, &mut head)? < HEAD_BYTES {
         return Ok(false);
     }
-    let mut image = vec![in alloc; 0u8; IMAGE_BYTES]?;
+    let mut image = zeros();
     let Some(len) = read_runs(input, &mut image)? else {
         return Ok(false);
     };
     let name = string_bytes(&head, NAME_OFFSET);
-    put_disc(out, alloc, name, be32_at(&head, 0), &image[..len])?;
+    put_disc(out, name, be32_at(&head, 0), &image[..len])?;
     Ok(true)
 }
 
 fn main(rt: HostRuntime) -> io::Result<()> {
-    let alloc = rt.alloc();
-    let mut input = BufReader::new(alloc, ClosedIsEmpty(rt.stdin()))?;
-    let mut out = BufWriter::new(alloc, rt.stdout())?;
+    let mut input = BufReader::new(rt.alloc(), ClosedIsEmpty(rt.stdin()))?;
+    let mut out = BufWriter::new(rt.alloc(), rt.stdout())?;
     for _ in 0..MAX_DISCS {
-        if !replay_next(&mut input, &mut out, alloc)? {
+        if !replay_next(&mut input, &mut out)? {
             break;
         }
     }

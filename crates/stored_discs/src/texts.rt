@@ -20,9 +20,10 @@ fn put_text(out: &mut impl Write, item: u32, answer: DecodeAnswer, page: &[u8]) 
         return Ok(());
     }
     let text = &page[..answer.len.min(page.len())];
+    write!(out, "text")?;
     writeln!(
         out,
-        "text {item} {} {} {}",
+        " {item} {} {} {}",
         answer.refusal,
         answer.len,
         digest(text)

@@ -5,18 +5,21 @@ use borrow.Rule.Slice.PartMut.{put_mid}
 use mathlib.Core.Path.{◌≡◌, refl, sym, ap, ap₂, ◌∙◌}
 use mathlib.Core.List.{List, ◌++◌}
 use lib.ListN.{length, take, drop, length-append}
-use Rattle.sectors.specs.Fill.{part, fill}
+use Rattle.sectors.specs.Fill.{part, fill, copy_into}
 use Rattle.sectors.specs.FillLaws.{slice_part, part_length, part_all, put_fill, length_fill, part_filled, part_before, part_after, fill_more}
 use Rattle.sectors.specs.CopyLaws.{copy_whole, copy_over}
 use Rattle.tape.proofs.BlockLaws.{part_add, part_three}
 
 -- what a copy from a place to a place leaves
-pub copied : (at place size : ℕ) (from to last : List ℕ) → at + size ≤ length from
-    → last ≡ take (at + size - at) (drop at from) → put_mid place (place + size - place) to last ≡ fill place (part at size from) to
-copied at place size from to last fits e =
+pub copied : (at place size : ℕ) (from to last : List ℕ) → at + size ≤ length from → place + size ≤ length to
+    → last ≡ copy_into 0 (take (at + size - at) (drop at from)) (take (place + size - place) (drop place to))
+    → put_mid place (place + size - place) to last ≡ fill place (part at size from) to
+copied at place size from to last fits room e =
     let size_is : place + size - place ≡ size = omega arith in
-    let is : last ≡ part at size from = e ∙ slice_part at size from in
-    put_fill place (place + size - place) to last (ap length is ∙ part_length at size from fits ∙ sym size_is) ∙ ap (λ (l : List ℕ). fill place l to) is
+    let long = part_length at size from fits in
+    let is : last ≡ part at size from =
+    e ∙ ap₂ (copy_into 0) (slice_part at size from) (slice_part place size to) ∙ copy_over _ _ (long ∙ sym (part_length place size to room)) in
+    put_fill place (place + size - place) to last (ap length is ∙ long ∙ sym size_is) ∙ ap (λ (l : List ℕ). fill place l to) is
 
 -- ---- fills that do not touch
 

@@ -4,6 +4,7 @@ ghost use Rattle.sectors.specs.Fill.{part, fill};
 ghost use Rattle.tape.specs.Store.{raw_size, unequal_lengths, refusal_of, lengths_refusal, gather_into, scatter_into, Restores};
 ghost use Rattle.tape.specs.Steps.{piece_copied, sector_copied, image_copied};
 
+use sectors::bytes::copy_bytes;
 use sectors::header::HEADER_FORMAT;
 use sectors::sector::{SECTOR_SIZE, sector_count};
 
@@ -61,7 +62,7 @@ fn copy_part(from: &[u8], at: usize, to: &mut [u8], place: usize, size: usize)
     requires written { place + size ≤ length to.old }
     ensures { to.new ≡ fill place (part at size from.now) to.old }
 {
-    to[place..place + size].copy_from_slice(&from[at..at + size]);
+    copy_bytes(&from[at..at + size], &mut to[place..place + size], 0);
 }
 
 // Copies a piece of sector k of n. (No struct of the two buffers, n and k: this function and the next alone share them.)

@@ -4,7 +4,7 @@ use Rattle.std.specs.Simd.{first_chunks}
 use Rattle.std.proofs.Common.{refl, sym, ap, ◌∙◌, add-zero, true≢false, eqb-true, arith, length-take, length-drop, get_or-drop, drop-drop}
 use Rattle.std.proofs.lemmas.Bool.{eqb-false}
 use Rattle.std.proofs.lemmas.List.{take-take, drop-take}
-use Rattle.text.specs.Mapping.{count_at, behind, entries_at, Counts, pairs_at, doubles_at, words_end, singles_of, pairs_of, doubles_of, Lists, lists_of, is_sound, is_mapping, mapping_in}
+use Rattle.text.specs.Mapping.{count_at, behind, twos, entries_at, Counts, pairs_at, doubles_at, words_end, singles_of, pairs_of, doubles_of, Lists, lists_of, is_sound, is_mapping, mapping_in}
 use Rattle.text.specs.MappingLaws.{whole_all, whole_parts, behind_more, mapping_is, mapping_found, mapping_none}
 
 -- the chunks of a front are the first of the whole
@@ -18,6 +18,13 @@ pub chunks_front : (k : ℕ) (l xs : List ℕ) → xs ≡ take (2 * k) l → 2 *
 chunks_front k l xs e h =
     let n : length xs / 2 ≡ k = omega (arith, ap length e, length-take (2 * k) l) in
     rw (n, e) (first_chunks-take k l)
+
+-- words that reach to the end of entries have as many as the count says
+pub entries_counted : (words : List ℕ) (at : ℕ) → behind words at ≤ length words → entries_at words at ≡ first_chunks 2 (count_at words at) (drop (at + 1) words)
+unfolding behind entries_at twos
+entries_counted words at h =
+    let behind_count = drop (at + 1) words in
+    chunks_front (count_at words at) behind_count (take (2 * count_at words at) behind_count) refl (omega (arith, h, length-drop (at + 1) words))
 
 -- words are read up to a place, and the rest stands behind it
 pub record ReadTo (words : List ℕ) (at : ℕ) (rest : List ℕ) : Type 0 where
@@ -41,7 +48,7 @@ module _ {words : List ℕ} {at : ℕ} {rest : List ℕ} (read : ReadTo words at
   pub next_list : {entries : List (List ℕ)} {left : List ℕ} → Counts rest entries left → (entries ≡ entries_at words at) × ReadTo words (behind words at) left
   unfolding entries_at
   next_list {entries} {left} c = (
-    c.are ∙ (λ j. first_chunks 2 (count_rest j) (behind_one j)),
+    c.are ∙ (λ j. twos (take (2 * count_rest j) (behind_one j))),
     record {
       inside = omega (arith, behind_rest, c.inside, read.inside, ap length read.left, length-drop at words);
       left = c.left ∙ ap (drop (behind rest 0)) read.left ∙ drop-drop (behind rest 0) at words ∙ ap (λ (n : ℕ). drop n words) (sym behind_rest);
@@ -85,7 +92,7 @@ module _ {words : List ℕ} {singles : List (List ℕ)} {rest₁ : List ℕ} (fi
     module _ {doubles : List (List ℕ)} {rest₃ : List ℕ} (third : Counts rest₂ doubles rest₃) where
       doubles_read : (doubles ≡ doubles_of words) × ReadTo words (words_end words) rest₃
       unfolding doubles_of words_end
-      doubles_read = next_list pairs_read.1 third
+      doubles_read = let read = next_list pairs_read.1 third in (read.0 ∙ entries_counted words (doubles_at words) read.1.inside, read.1)
 
       abbrev lists : Lists
       lists = record { singles = singles; pairs = pairs; doubles = doubles }

@@ -141,7 +141,7 @@ module _ (bytes : List ℕ) (code : ℕ) (words : List ℕ) where
 
   -- both by the set that the code names
   module _ {s : CharacterSet} (named : set_number s ≡ charset_of code) where
-    points_other : (s ≡ set.Latin1 → ⊥) → points_of bytes code words ≡ unless_absent bytes (mapped_of words (set_number s) bytes)
+    pub points_other : (s ≡ set.Latin1 → ⊥) → points_of bytes code words ≡ unless_absent bytes (mapped_of words (set_number s) bytes)
     points_other other =
         let mapped = not_latin1_mapped code (λ z. other (latin1_alone s (named ∙ z))) in
         points_by_set mapped ∙ ap (λ (n : ℕ). unless_absent bytes (mapped_of words n bytes)) (sym (charset_mapped code mapped) ∙ sym named)

@@ -2,6 +2,7 @@ pub mod Ascii
 pub mod Counting
 pub mod Filling
 pub mod Folding
+pub mod Padding
 pub mod Searching
 pub mod RefusalLaws
 pub mod Rules

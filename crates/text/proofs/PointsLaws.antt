@@ -5,6 +5,7 @@ use Rattle.std.specs.List.{list_all}
 use Rattle.std.proofs.Common.{sym, ap, ◌∙◌, arith, lt-ltb, le-ltb, length-append}
 use Rattle.std.proofs.Math.Bool.{and-eq-true_iff}
 use Rattle.text.specs.Utf8.{utf8, blanked, encoded}
+use Rattle.text.specs.Utf8Laws.{encoded_append}
 use Rattle.text.specs.Mapping.{key_of, value_of, key_at, Rising, Lists, is_sound, is_value, double_base}
 use Rattle.text.specs.MappingLaws.{lookup_at}
 use Rattle.text.specs.Mapped.{replacement, pair_key, value_in, is_pair, pair_in, values_of, double_points, value_points, points_by}
@@ -71,9 +72,14 @@ module _ (lists : Lists) (set : ℕ) where
 
   module _ (bytes rest : List ℕ) {value : ℕ}
       (first : values_of lists set bytes ≡ value ∷ values_of lists set rest) where
-    points_more : points_by lists set bytes ≡ value_points lists.doubles value ++ points_by lists set rest
+    -- they are those of that value, and those of the bytes behind it
+    pub points_more : points_by lists set bytes ≡ value_points lists.doubles value ++ points_by lists set rest
     unfolding points_by flat_map
     points_more = ap (flat_map (value_points lists.doubles)) first
+
+    -- and so is their text
+    pub text_step : encoded (points_by lists set bytes) ≡ encoded (value_points lists.doubles value) ++ encoded (points_by lists set rest)
+    text_step = ap encoded points_more ∙ encoded_append (value_points lists.doubles value) (points_by lists set rest)
 
     pub points_one : value < double_base → points_by lists set bytes ≡ value ∷ points_by lists set rest
     unfolding value_points

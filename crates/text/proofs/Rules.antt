@@ -1,7 +1,6 @@
 -- Laws that proofs of functions use together. Assumes nothing.
 use Rattle.text.specs.Utf8Laws.{utf8_one, utf8_two, utf8_three, utf8_four}
 use Rattle.text.proofs.DecodeLaws.{absent_is, present_is, answer_none, page_none, mapped_none, mapped_bad, mapped_good, answer_short, answer_fits, page_short, page_fits}
-use Rattle.std.proofs.lemmas.List.{drop-replicate, length-replicate}
 use Rattle.std.proofs.lemmas.List.Sums.{prefix_len-le-length, suffix_len-le-length}
 use Rattle.text.specs.WhileLaws.{while_front, while_length}
 use Rattle.text.proofs.Ascii.{stored_ascii, stored_until}
@@ -20,6 +19,3 @@ pub ruleset ascii_front = (while_front, while_length, stored_ascii, stored_until
 
 -- what passes a test at the start of a list, or at its end, is no longer than the list
 pub ruleset run_lengths = (prefix_len-le-length, suffix_len-le-length)
-
--- what is left of zeros, and how many
-pub ruleset zeros_dropped = (drop-replicate, length-replicate)

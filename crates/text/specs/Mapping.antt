@@ -1,6 +1,6 @@
 -- A lent mapping of a character set to Unicode, as 32-bit words (02, item 1): where its parts stand, whether words are one, and the
 -- value of a key. Assumes nothing.
-use Rattle.std.specs.Prelude.{◌≡◌, ℕ, ◌+◌, ◌*◌, ◌^◌, ◌<◌, ◌≤◌, Bool, true, cond, not, ◌&&◌, ◌||◌, Option, Some, None, List, [], ◌∷◌, leb, ltb, eqb, length, get_or, drop, flat_map}
+use Rattle.std.specs.Prelude.{◌≡◌, ℕ, ◌+◌, ◌*◌, ◌/◌, ◌^◌, ◌<◌, ◌≤◌, Bool, true, cond, not, ◌&&◌, ◌||◌, Option, Some, None, List, [], ◌∷◌, leb, ltb, eqb, length, get_or, take, drop, flat_map}
 use Rattle.std.specs.List.{list_all}
 use Rattle.std.specs.Simd.{first_chunks}
 
@@ -14,9 +14,13 @@ count_at words at = get_or words at 0
 unfoldable pub behind : List ℕ → ℕ → ℕ
 behind words at = at + 1 + 2 * count_at words at
 
--- those entries, two words each
+-- words two at a time; one that is left over is in none
+unfoldable pub twos : List ℕ → List (List ℕ)
+twos words = first_chunks 2 (length words / 2) words
+
+-- those entries, two words each, that the words have; of words that end before them, those that are whole
 unfoldable pub entries_at : List ℕ → ℕ → List (List ℕ)
-entries_at words at = first_chunks 2 (count_at words at) (drop (at + 1) words)
+entries_at words at = twos (take (2 * count_at words at) (drop (at + 1) words))
 
 -- what the code cuts from the start of words: the entries that a count there counts, fewer than 2^32, and the words behind them
 pub record Counts (words : List ℕ) (entries : List (List ℕ)) (rest : List ℕ) : Type 0 where
@@ -45,8 +49,9 @@ singles_of words = entries_at words singles_at
 unfoldable pub pairs_of : List ℕ → List (List ℕ)
 pairs_of words = entries_at words (pairs_at words)
 
+-- as many as their count says, whether the words have them or not
 unfoldable pub doubles_of : List ℕ → List (List ℕ)
-doubles_of words = entries_at words (doubles_at words)
+doubles_of words = first_chunks 2 (count_at words (doubles_at words)) (drop (doubles_at words + 1) words)
 
 pub record Lists : Type 0 where
   pub singles : List (List ℕ)

@@ -6,13 +6,13 @@ use Rattle.std.proofs.Math.Bool.{true, false, and-eq-true_iff, and_assoc, and-tr
 use mathlib.Core.List.{List, [], ◌∷◌}
 use Prim.Native.Nat.{ℕ, zero, suc, ◌+◌, ◌%◌, ◌^◌, ◌≤◌, ◌<◌}
 use native.Mathlib.Omega.{arith}
-use borrow.Author.Tests.{ltb-true, leb-true, eqb-true, eq-eqb, ne_eqb, lt-ltb}
+use borrow.Author.Tests.{ltb-true, leb-true, eqb-true, eq-eqb, ne_eqb, lt-ltb, le-ltb, ltb-false, le-leb, lt-leb}
 use Rattle.std.proofs.Math.Dec.{ltb}
 use Rattle.std.proofs.Math.ListN.{length, get_or}
 use Rattle.std.proofs.lemmas.Bool.{false_from_ne_true}
 use Rattle.std.proofs.lemmas.List.Recursion.{found_at, found_nowhere}
 use Rattle.std.specs.Simd.{first_chunks}
-use Rattle.text.specs.Mapping.{count_at, behind, entries_at, singles_at, pairs_at, doubles_at, words_end, doubles_of, is_whole, is_value, entries_sound, is_sound, lists_of, is_mapping, mapping_in, key_of, value_of, key_at, lookup_in, Rising}
+use Rattle.text.specs.Mapping.{count_at, behind, singles_at, pairs_at, doubles_at, words_end, doubles_of, is_whole, is_point, is_value, entries_sound, all_points, is_sound, lists_of, is_mapping, mapping_in, key_of, value_of, key_at, lookup_in, Rising}
 
 -- so many chunks
 length_chunks : (k : ℕ) (l : List ℕ) → length (first_chunks 2 k l) ≡ k
@@ -81,7 +81,13 @@ module _ (key : ℕ) (entries : List (List ℕ)) where
       found_nowhere (lookup_in key) (λ entry. eqb (key_of entry) key) (λ entry. Some (value_of entry)) None refl (λ x xs. refl) entries []
       (λ j l. ne_eqb (key_at entries j) key (n j l))
 
--- ---- the test of entries that passes over them from the left
+-- the front of a list from a place on, two at a time
+pub drop_two : (l : List ℕ) (i : ℕ) → i + 1 < length l → drop i l ≡ get_or l i 0 ∷ get_or l (i + 1) 0 ∷ drop (i + 2) l
+drop_two l i h =
+    let two : i + 2 ≡ suc (suc i) = omega arith in
+    rw (add-one i, two) (drop-cons l i 0 (omega arith) ∙ ap (λ (r : List ℕ). get_or l i 0 ∷ r) (drop-cons l (suc i) 0 (omega arith)))
+
+-- ---- tests that pass over a list from the left
 module _ (width count : ℕ) (l : List (List ℕ)) (i : ℕ) where
   -- an entry more
   pub sound_next : i < length l → (least : ℕ) (so_far : Bool)
@@ -120,8 +126,52 @@ module _ (width count : ℕ) (l : List (List ℕ)) (i : ℕ) where
   unfolding entries_sound
   sound_end h least so_far = rw (drop_of_length-le l h) (and-true so_far)
 
+-- the first entry: no key is below 0
+pub sound_start : (width count : ℕ) (l : List (List ℕ)) → 0 < length l
+    → (ltb (key_at l 0) width && is_value count (value_of (get_or l 0 [])) && entries_sound width count (key_at l 0 + 1) (drop 1 l)) ≡ entries_sound width count 0 l
+unfolding entries_sound
+sound_start width count [] h = absurd (omega arith)
+sound_start width count (entry ∷ rest) h = sym (simp (le-leb 0 (key_of entry) (omega arith)))
+
+-- at least one more than a number is above it
+pub above_is : (a b : ℕ) → ltb a b ≡ leb (a + 1) b
+above_is a b = go (ltb a b) refl
+  where
+    go : (t : Bool) → ltb a b ≡ t → t ≡ leb (a + 1) b
+    go true e = sym (le-leb (a + 1) b (omega (arith, ltb-true a b e)))
+    go false e = sym (lt-leb (a + 1) b (omega (arith, ltb-false a b e)))
+
+-- a word more, and none
+pub points_next : (l : List ℕ) (i : ℕ) → i < length l → (so_far : Bool)
+    → (so_far && all_points (drop i l)) ≡ (so_far && is_point (get_or l i 0) && all_points (drop (i + 1) l))
+unfolding all_points
+points_next l i h so_far =
+    ap (λ (r : List ℕ). so_far && all_points r) (drop-cons l i 0 h ∙ ap (λ (n : ℕ). get_or l i 0 ∷ drop n l) (sym (add-one i)))
+    ∙ sym (and_assoc so_far (is_point (get_or l i 0)) (all_points (drop (i + 1) l)))
+
+pub points_end : (l : List ℕ) (i : ℕ) → length l ≤ i → all_points (drop i l) ≡ true
+unfolding all_points
+points_end l i h = ap all_points (drop_of_length-le l h)
+
 -- ---- the parts of a mapping
 module _ (words : List ℕ) where
+  -- a count is missing, or words are left over
+  pub whole_none : length words ≤ 0 → is_whole words ≡ false
+  unfolding is_whole
+  whole_none h = simp (le-ltb singles_at (length words) h)
+
+  pub whole_singles : length words ≤ pairs_at words → is_whole words ≡ false
+  unfolding is_whole
+  whole_singles h = simp (le-ltb (pairs_at words) (length words) h, and-false)
+
+  pub whole_pairs : length words ≤ doubles_at words → is_whole words ≡ false
+  unfolding is_whole
+  whole_pairs h = simp (le-ltb (doubles_at words) (length words) h, and-false)
+
+  pub whole_left : (words_end words ≡ length words → ⊥) → is_whole words ≡ false
+  unfolding is_whole
+  whole_left n = simp (ne_eqb (words_end words) (length words) n, and-false)
+
   -- all counts are there, and no words are left over
   pub whole_all : 0 < length words → pairs_at words < length words → doubles_at words < length words → words_end words ≡ length words → is_whole words ≡ true
   unfolding is_whole
@@ -145,10 +195,19 @@ module _ (words : List ℕ) where
 
   -- as many doubles as their count says
   pub doubles_length : length (doubles_of words) ≡ count_at words (doubles_at words)
-  unfolding doubles_of entries_at
+  unfolding doubles_of
   doubles_length = length_chunks (count_at words (doubles_at words)) (drop (doubles_at words + 1) words)
 
-  -- ---- a mapping has its parts, and what stands in them is sound
+  -- ---- without its parts no words are a mapping; with them it is whether they are sound
+  pub mapping_cut : is_whole words ≡ false → is_mapping words ≡ false
+  unfolding is_mapping
+  mapping_cut e = simp e
+
+  pub mapping_whole : is_whole words ≡ true → is_mapping words ≡ is_sound (lists_of words)
+  unfolding is_mapping
+  mapping_whole e = simp e
+
+  -- a mapping has its parts, and what stands in them is sound
   pub mapping_is : is_mapping words ≡ true → (is_whole words ≡ true) × (is_sound (lists_of words) ≡ true)
   unfolding is_mapping
   mapping_is e = (and-eq-true_iff (is_whole words) (is_sound (lists_of words))).0 e

@@ -120,7 +120,7 @@ pub(crate) fn decode_latin1(bytes: &[u8], page: &mut [u8]) -> Result<usize, Deco
 
 // Decodes a string's bytes, of the set that a code names, to the start of a page, those of sets 3 to 6 by a mapping. A refusal changes nothing. (The
 // Rust's `decode_string`; its own `decode` leaves controls as they are.)
-#[tactic(auto, using(crate::proofs::DecodeLaws::points_held), unfolding(crate::specs::Decode::decode_of, crate::specs::Decode::decode_into))]
+#[tactic(auto, using(crate::proofs::DecodeLaws::points_held, crate::proofs::DecodeLaws::points_other), unfolding(crate::specs::Decode::decode_of, crate::specs::Decode::decode_into))]
 pub fn decode(
     bytes: &[u8],
     code: u8,

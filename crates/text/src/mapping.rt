@@ -72,7 +72,7 @@ fn all_points(words: &[u32]) -> bool
 }
 
 // The entries that a count announces at the start of words, and the words behind them.
-#[tactic(auto, using(crate::proofs::Counting::chunks_front), unfolding(crate::specs::Mapping::count_at, crate::specs::Mapping::behind, crate::specs::Mapping::entries_at))]
+#[tactic(auto, unfolding(crate::specs::Mapping::count_at, crate::specs::Mapping::behind, crate::specs::Mapping::entries_at, crate::specs::Mapping::twos))]
 fn counted<'a>(words: &'a [u32]) -> Option<(&'a [[u32; 2]], &'a [u32])>
     ensures { MatchOption result (length words.now < behind words.now 0) (λ r. Counts words.now r.0.now r.1.now) }
 {

@@ -57,6 +57,7 @@ fn pair_value(mapping: &Mapping<'_>, set: CharacterSet, key: u32) -> Option<u32>
 }
 
 // The value of the bytes that stand first, of two that have one together or else of one, and the bytes behind them.
+#[inline(always)]
 fn split_value<'a>(
     mapping: &Mapping<'_>,
     set: CharacterSet,
@@ -102,6 +103,8 @@ impl Iterator for Points<'_> {
 
     ghost remaining = { item_count points_left };
 
+    // Inlined: so a loop over the points of a text has what is left of it in registers.
+    #[inline(always)]
     #[tactic(auto, using(crate::proofs::PointsLaws::points_none, crate::proofs::PointsLaws::points_one, crate::proofs::PointsLaws::points_two, crate::proofs::PointsLaws::double_there), unfolding(crate::specs::Points::points_left))]
     fn next(&mut self) -> Option<u32> {
         if let Some(second) = self.second.take() {

@@ -2,7 +2,7 @@
 use Rattle.std.proofs.Common.{ap, sym, ◌∙◌}
 use Rattle.disc.specs.Outcome.{Outcome}
 use Rattle.disc.specs.Refusal.{number_of, refused_by, number_some}
-use Rattle.disc.specs.StepLaws.{disc_refused, disc_read}
+use Rattle.disc.specs.StepLaws.{disc_refused, disc_opened}
 use Rattle.disc.proofs.disc.read_disc.Goals as goal
 
 pub returns-in-Err : goal.returns-in-Err
@@ -24,7 +24,7 @@ unfolding refused_by
 returns c =
     let a = c.args in let o = c.in-Ok in let r = c.read_slot-first in let s = c.read_slot-second in
     let read =
-    disc_read a.format a.image.now a.work.now a.tracks.now a.words.now o.opened c.open.new.work c.open.new.words r.result s.result
+    disc_opened a.format a.image.now a.work.now a.tracks.now a.words.now o.opened c.open.new.work c.open.new.words r.result s.result
     r.new.tracks s.new.tracks r.new.words s.new.words c.disc_answer.result
     (sym o.ensures.refused) o.ensures.opened o.ensures.filled o.ensures.warned
     r.ensures.0 r.ensures.1.0 r.ensures.1.1 s.ensures.0 s.ensures.1.0 s.ensures.1.1 c.disc_answer.ensures in (

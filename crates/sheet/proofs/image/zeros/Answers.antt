@@ -1,0 +1,7 @@
+-- So many equal bytes have that length.
+use Rattle.std.proofs.Common.{ℕ, sym}
+use Rattle.std.proofs.lemmas.List.{length-replicate}
+use Rattle.sheet.proofs.image.zeros.Goals as goal
+
+pub returns : goal.returns
+returns c = sym (length-replicate {A = ℕ} 1071104 0)
