@@ -44,7 +44,8 @@ pub fn source_sector<'a>(source: Source<'a>, lsn: Lsn) -> &'a [u8]
     }
 }
 
-// The data bytes of a sector that is there.
+// The data bytes of a sector that is there. (Inlined: so a loop over a run asks once which source it is.)
+#[inline(always)]
 #[tactic(auto, using(crate::proofs::SourceLaws::image_has, crate::proofs::SourceLaws::image_given, crate::proofs::SectorLaws::sector_length, crate::proofs::PoolLaws::source_size, crate::proofs::PoolCases::has_any), unfolding(crate::specs::Pool::source_of, crate::specs::Pool::pooled_source))]
 fn source_data<'a>(source: Source<'a>, n: usize) -> &'a [u8]
     requires { is_there ((source_of source).at n) ≡ true }

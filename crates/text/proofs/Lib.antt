@@ -1,7 +1,7 @@
 pub mod Ascii
 pub mod Counting
 pub mod Filling
-pub mod Folding
+pub mod FoldLaws
 pub mod Padding
 pub mod Searching
 pub mod RefusalLaws

@@ -24,12 +24,14 @@ pub(crate) struct Points<'a> {
     bytes: &'a [u8],
 }
 
-// Whether a pair is reserved in Shift JIS.
+// Whether a pair is reserved in Shift JIS. (All are looked at, and `pair_value` branches once: which way the bytes of a text go cannot be foretold.)
 #[tactic(auto, unfolding(crate::specs::Mapped::is_reserved))]
 fn is_reserved(key: u32) -> bool
     ensures { result ≡ is_reserved key }
 {
-    RESERVED.contains(&key)
+    RESERVED
+        .iter()
+        .fold(false, |any, &pair| any | (pair == key))
 }
 
 // The value of a byte by itself. Where every byte up to it has one, it stands at the byte's own place.
@@ -50,7 +52,7 @@ fn pair_value(mapping: &Mapping<'_>, set: CharacterSet, key: u32) -> Option<u32>
     ensures { result ≡ pair_in mapping.now.pairs (set_number set) key }
 {
     let pair = lookup(mapping.pairs, key);
-    if pair.is_none() && set == CharacterSet::ShiftJisX0213 && is_reserved(key) {
+    if pair.is_none() & (set == CharacterSet::ShiftJisX0213) & is_reserved(key) {
         return Some(REPLACEMENT);
     }
     pair

@@ -3,7 +3,7 @@ use Rattle.std.proofs.Common.{true, ◌&&◌, rules, ◌∙◌}
 use Rattle.std.proofs.lemmas.Iterator.{YieldsList-from_slice}
 use Rattle.std.proofs.lemmas.Iterator.Consumers.{fold_from_yields_List}
 use Rattle.text.specs.Mapping.{is_point, all_points}
-use Rattle.text.proofs.Folding.{fold_all}
+use Rattle.text.proofs.FoldLaws.{fold_all}
 use Rattle.text.proofs.mapping.all_points.Goals as goal
 
 pub returns : goal.returns
